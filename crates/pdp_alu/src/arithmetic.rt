@@ -45,7 +45,7 @@ pub fn cmp(size: Size, source: u16, destination: u16) -> Effect
     subtract(size, source, destination)
 }
 
-// One operand less another, both cut to the size.
+/// One operand less another, both cut to the size.
 #[inline]
 fn subtract(size: Size, minuend: u16, subtrahend: u16) -> Effect
     ensures effect { result ≡ difference size minuend subtrahend }
@@ -62,8 +62,8 @@ fn subtract(size: Size, minuend: u16, subtrahend: u16) -> Effect
     )
 }
 
-// Whether the signed difference of two operands of this size does not fit it: their signs differ,
-// and what is left of the difference has the sign of the subtrahend.
+/// Whether the signed difference of two operands of this size does not fit it: their signs differ,
+/// and what is left of the difference has the sign of the subtrahend.
 #[inline]
 fn difference_overflows(size: Size, minuend: u16, subtrahend: u16) -> bool
     requires minuend_fits { minuend < span size }

@@ -8,7 +8,7 @@ use crate::long::LongEffect;
 use crate::shifting::Shifting;
 use pdp_word::Size;
 
-// The sign bits of a word and of a number of 32 bits.
+/// The sign bits of a word and of a number of 32 bits.
 const WORD_SIGN: u32 = 1 << 15;
 
 const LONG_SIGN: u32 = 1 << 31;
@@ -42,7 +42,7 @@ pub fn ashc(long: u32, source: u16) -> LongEffect
     LongEffect::new(shifting.number, shifting.sign_changed, shifting.out)
 }
 
-// A number with this sign bit, shifted by the signed low six bits of the source.
+/// A number with this sign bit, shifted by the signed low six bits of the source.
 fn shift(sign: u32, number: u32, source: u16) -> Shifting
     requires sign { sign ≤ 2 ^ 31 }
     requires number { number < 2 * sign }
@@ -57,7 +57,7 @@ fn shift(sign: u32, number: u32, source: u16) -> Shifting
     }
 }
 
-// So many places to the left.
+/// So many places to the left.
 fn shift_left(sign: u32, number: u32, count: u16) -> Shifting
     requires sign { sign ≤ 2 ^ 31 }
     requires number { number < 2 * sign }
@@ -71,7 +71,7 @@ fn shift_left(sign: u32, number: u32, count: u16) -> Shifting
     shifting
 }
 
-// So many places to the right.
+/// So many places to the right.
 fn shift_right(sign: u32, number: u32, count: u16) -> Shifting
     requires sign { sign ≤ 2 ^ 31 }
     requires number { number < 2 * sign }

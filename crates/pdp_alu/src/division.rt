@@ -24,7 +24,7 @@ pub fn div(dividend: u32, divisor: u16) -> Div
     divide_signed(signed_long(dividend), signed(divisor))
 }
 
-// DIV of two signed numbers.
+/// DIV of two signed numbers.
 #[inline]
 fn divide_signed(dividend: i32, divisor: i32) -> Div
     requires small { unsigned_abs divisor ≤ 0o100000 }
@@ -40,7 +40,7 @@ fn divide_signed(dividend: i32, divisor: i32) -> Div
     divided(word_of(quotient), word_of(remainder))
 }
 
-// Nothing is divided: V is set, and Z and C too if the divisor is 0.
+/// Nothing is divided: V is set, and Z and C too if the divisor is 0.
 #[inline]
 fn kept(zero_divisor: bool) -> Div
     ensures { result ≡ Kept (if zero_divisor then zero_divisor_codes else overflow_codes) }
@@ -53,7 +53,7 @@ fn kept(zero_divisor: bool) -> Div
     })
 }
 
-// The quotient, rounded towards 0, and the remainder.
+/// The quotient, rounded towards 0, and the remainder.
 #[inline]
 fn divide(dividend: i32, divisor: i32) -> (i64, i64)
     requires divisor { 0 < unsigned_abs divisor }
@@ -66,7 +66,7 @@ fn divide(dividend: i32, divisor: i32) -> (i64, i64)
     (dividend / divisor, dividend % divisor)
 }
 
-// The word of a signed number that is one.
+/// The word of a signed number that is one.
 #[inline]
 fn word_of(number: i64) -> u16
     requires fits { FitsSigned w16 number }
@@ -75,7 +75,7 @@ fn word_of(number: i64) -> u16
     (number as i16).cast_unsigned()
 }
 
-// A division that was done: N and Z are of the quotient.
+/// A division that was done: N and Z are of the quotient.
 #[inline]
 fn divided(quotient: u16, remainder: u16) -> Div
     ensures { result ≡ quotient_and_remainder quotient remainder }

@@ -13,7 +13,7 @@ pub struct Effect {
 }
 
 impl Effect {
-    // The effect with this value, cut to the size, with N and Z of what is left.
+    /// The effect with this value, cut to the size, with N and Z of what is left.
     #[inline]
     pub(crate) fn new(size: Size, value: u16, overflow: bool, carry: bool) -> Effect
         ensures effect { result ≡ effect size value overflow carry }

@@ -11,7 +11,7 @@ pub struct LongEffect {
 }
 
 impl LongEffect {
-    // The effect with this value, with N and Z of its 32 bits.
+    /// The effect with this value, with N and Z of its 32 bits.
     #[inline]
     pub(crate) fn new(value: u32, overflow: bool, carry: bool) -> LongEffect
         ensures effect { result ≡ long_effect value overflow carry }
@@ -55,7 +55,7 @@ pub fn low_word(long: u32) -> u16
     (long & 0o177777) as u16
 }
 
-// A number of 32 bits as a signed number.
+/// A number of 32 bits as a signed number.
 #[inline]
 pub fn signed_long(long: u32) -> i32
     ensures { result ≡ signed_long long }

@@ -21,7 +21,7 @@ pub fn mul(multiplicand: u16, multiplier: u16) -> LongEffect
     )
 }
 
-// The product of two signed words, which 32 bits hold.
+/// The product of two signed words, which 32 bits hold.
 #[inline]
 fn product(multiplicand: u16, multiplier: u16) -> i32
     ensures { result ≡ product multiplicand multiplier }

@@ -18,7 +18,7 @@ pub fn cut(size: Size, number: u16) -> u16
     }
 }
 
-// The largest positive number of this size.
+/// The largest positive number of this size.
 #[inline]
 pub fn most_positive(size: Size) -> u16
     ensures { result ≡ most_positive size }
@@ -29,7 +29,7 @@ pub fn most_positive(size: Size) -> u16
     }
 }
 
-// The most negative number of this size: its top bit alone.
+/// The most negative number of this size: its top bit alone.
 #[inline]
 pub fn most_negative(size: Size) -> u16
     ensures { result ≡ most_negative size }
@@ -40,7 +40,7 @@ pub fn most_negative(size: Size) -> u16
     }
 }
 
-// Every bit of this size.
+/// Every bit of this size.
 #[inline]
 pub fn all_ones(size: Size) -> u16
     ensures { result ≡ all_ones size }
@@ -51,7 +51,7 @@ pub fn all_ones(size: Size) -> u16
     }
 }
 
-// Whether the top bit of an operand of this size is set.
+/// Whether the top bit of an operand of this size is set.
 #[inline]
 pub fn is_negative(size: Size, operand: u16) -> bool
     ensures { result ≡ is_negative size operand }
@@ -59,7 +59,7 @@ pub fn is_negative(size: Size, operand: u16) -> bool
     operand >= most_negative(size)
 }
 
-// Whether a number is no signed word.
+/// Whether a number is no signed word.
 #[inline]
 pub fn overflows(number: i64) -> bool
     ensures { result ≡ overflows Word number }

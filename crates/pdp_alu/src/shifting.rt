@@ -1,8 +1,8 @@
 ghost use Rattle.std.specs.Prelude.{◌≡◌, ◌<◌, ◌≤◌, ◌*◌, ◌^◌};
 ghost use Rattle.pdp_alu.specs.ArithmeticShifts.{shifted_left, shifted_right, shifting_from};
 
-// A number that is being shifted, the bit that was moved out last, and whether the sign has
-// changed.
+/// A number that is being shifted, the bit that was moved out last, and whether the sign has
+/// changed.
 #[derive(Clone, Copy)]
 pub struct Shifting {
     pub number: u32,
@@ -11,7 +11,7 @@ pub struct Shifting {
 }
 
 impl Shifting {
-    // A number before it is shifted.
+    /// A number before it is shifted.
     #[inline]
     pub fn unshifted(number: u32) -> Shifting
         ensures { result ≡ shifting_from number }
@@ -23,7 +23,7 @@ impl Shifting {
         }
     }
 
-    // One place to the left: the sign bit goes out.
+    /// One place to the left: the sign bit goes out.
     #[inline]
     pub fn left(self, sign: u32) -> Shifting
         requires sign { sign ≤ 2 ^ 31 }
@@ -41,7 +41,7 @@ impl Shifting {
         }
     }
 
-    // One place to the right: the lowest bit goes out, the sign bit stays.
+    /// One place to the right: the lowest bit goes out, the sign bit stays.
     #[inline]
     pub fn right(self, sign: u32) -> Shifting
         requires sign { sign ≤ 2 ^ 31 }

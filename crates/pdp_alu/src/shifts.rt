@@ -57,7 +57,7 @@ pub fn asl(size: Size, value: u16) -> Effect
     move_left(size, value, false)
 }
 
-// One place to the right: a bit into the top bit, the lowest bit out.
+/// One place to the right: a bit into the top bit, the lowest bit out.
 #[inline]
 fn move_right(size: Size, value: u16, top: bool) -> Effect
     ensures effect { result ≡ moved_right size (value % span size) top }
@@ -72,7 +72,7 @@ fn move_right(size: Size, value: u16, top: bool) -> Effect
     shifted(size, moved, value & 1 == 1)
 }
 
-// One place to the left: a bit into the lowest bit, the top bit out.
+/// One place to the left: a bit into the lowest bit, the top bit out.
 #[inline]
 fn move_left(size: Size, value: u16, lowest: bool) -> Effect
     ensures effect { result ≡ moved_left size (value % span size) lowest }
@@ -82,7 +82,7 @@ fn move_left(size: Size, value: u16, lowest: bool) -> Effect
     shifted(size, (value << 1) + u16::from(lowest), out)
 }
 
-// The result of a shift and the bit that it moved out.
+/// The result of a shift and the bit that it moved out.
 #[inline]
 fn shifted(size: Size, moved: u16, out: bool) -> Effect
     ensures effect { result ≡ shift_effect size moved out }

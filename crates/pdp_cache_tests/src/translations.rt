@@ -6,7 +6,7 @@ use pdp_word::NoMemory;
 /// Mapping is on. Page 0 of both modes has all of its length, and can be read and written; no other
 /// page is resident.
 fn mapped() -> Kt {
-    let mut kt = Kt::power();
+    let mut kt = Kt::at_power_up();
     kt.write_reg(
         KtRegister::Descriptor(Space::Kernel, PageNumber::P0),
         0o077406,

@@ -1,7 +1,7 @@
--- The checkpoint of turn 0 with other delays of the devices [P].
+-- The checkpoint of turn 0 with other delays of the devices.
 use Rattle.std.specs.Prelude.{[], nat_le, map}
 use Rattle.std.specs.List.{filter}
-use Rattle.pdp_unibus.specs.declared.delays.Delays.{Delays}
+use Rattle.pdp_io_page.specs.declared.delays.Delays.{Delays}
 use Rattle.pdp_cpu.specs.Saved.{saved_machine_with_delays}
 use Rattle.pdp_checkpoint.specs.declared.checkpoint.Checkpoint.{Checkpoint}
 use Rattle.pdp_checkpoint.specs.Ladder.{LadderData}

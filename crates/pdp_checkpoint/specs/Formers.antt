@@ -1,5 +1,4 @@
--- What is kept of a run that an edit of its past ended, until a run of the edited past meets it
--- [P].
+-- What is kept of a run that an edit of its past ended, until a run of the edited past meets it.
 use Rattle.std.specs.Prelude.{ℕ, ◌≡◌, ◌≤◌, ◌<◌, ◌⊎◌, List, Option, Some, None, max, slice_get}
 use Rattle.std.specs.List.{All}
 use Rattle.pdp_cpu.specs.SavedOutput.{OutputData}

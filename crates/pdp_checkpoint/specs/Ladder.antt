@@ -1,4 +1,4 @@
--- The checkpoints of a machine, at the multiples of a stride of turns [P].
+-- The checkpoints of a machine, at the multiples of a stride of turns.
 use Rattle.std.specs.Prelude.{ℕ, zero, suc, ◌≡◌, ◌+◌, ◌*◌, ◌/◌, ◌%◌, ◌-◌, ◌<◌, ◌≤◌, ◌==◌, min}
 use Rattle.std.specs.Prelude.{nat_lt, if◌then◌else◌, List, [], ◌∷◌, ◌++◌, drop, length, map}
 use Rattle.std.specs.List.{filter}

@@ -1,4 +1,4 @@
--- Checkpoints with another value in a word [P].
+-- Checkpoints with another value in a word.
 use Rattle.std.specs.Prelude.{ℕ, ◌≡◌, ◌<◌, List, [], nat_le, length, map, slice_index_or}
 use Rattle.std.specs.List.{All, filter}
 use Rattle.pdp_store.specs.declared.part.WordAt.{WordAt}

@@ -11,8 +11,8 @@
 //! - `Kw`, the clock: a tick requests exactly if enable is set, and no write does
 //!   (`ticks_request_where_enabled`).
 //!
-//! The addresses, how a byte is written to a register, when the printer completes and the clock
-//! ticks, and which request is served are left to pdp_unibus.
+//! The addresses, how a byte is written to a register and which request is served are left to
+//! pdp_io_page, when the printer completes and the clock ticks to pdp_unibus.
 #![tactic(auto)]
 
 mod bits;

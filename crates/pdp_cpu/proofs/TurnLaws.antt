@@ -34,7 +34,7 @@ use Rattle.pdp_instruction.specs.declared.saved_context.SavedContext.{SavedConte
 use Rattle.pdp_decode.specs.declared.instruction.Instr.{Instr}
 use Rattle.pdp_operand.specs.Phases.Course.{Course, End, Go, ends, follow}
 use Rattle.pdp_action.specs.declared.trap.Trap.TheVariants.{OddAddress, MappingAbort, BusTimeout, Reserved, JumpToRegister, StackLimit, Breakpoint, InputOutput, Emulator, TrapInstruction}
-use Rattle.pdp_unibus.specs.Handbook.Source.{vector_of}
+use Rattle.pdp_io_page.specs.Handbook.Source.{vector_of}
 
 ends_at_most : (n : ℕ) → (i : Inner) → AtMost (ends i) n
 ends_at_most n i = tt

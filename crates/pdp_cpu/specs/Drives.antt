@@ -1,4 +1,4 @@
--- The drives of a machine, exchanged for others [P].
+-- The drives of a machine, exchanged for others.
 use Rattle.std.specs.Prelude.{ℕ, List}
 use Rattle.pdp_operand.specs.Phases.World.{world}
 use Rattle.pdp_store.specs.FirstTouches.{first_touches_of}

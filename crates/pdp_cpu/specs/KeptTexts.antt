@@ -1,4 +1,4 @@
--- Bytes that came out of a machine, kept with their turns [P].
+-- Bytes that came out of a machine, kept with their turns.
 use Rattle.std.specs.Prelude.{ℕ, ◌+◌, ◌++◌, List, [], ◌∷◌, drop, map, nat_le, take, if◌then◌else◌}
 use Rattle.pdp_cpu.specs.declared.kept_text.KeptByte.{KeptByte}
 

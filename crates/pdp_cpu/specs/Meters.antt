@@ -1,4 +1,4 @@
--- What a meter of turns counts [P].
+-- What a meter of turns counts.
 use Rattle.std.specs.Prelude.{◌≡◌, ℕ, ◌+◌, ◌-◌, ◌^◌, ◌≤◌, min}
 
 -- it counts so many turns more; at 18,446,744,073,709,551,615 it stays there

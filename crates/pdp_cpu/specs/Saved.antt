@@ -1,4 +1,4 @@
--- What is saved of a machine [P].
+-- What is saved of a machine.
 use Rattle.std.specs.Prelude.{ℕ, ◌≡◌, ◌≤◌, ◌+◌, ◌-◌, List, length, take}
 use Rattle.pdp_store.specs.declared.part.WordAt.{WordAt}
 use Rattle.pdp_operand.specs.Phases.World.{World, world}
@@ -9,7 +9,7 @@ use Rattle.pdp_unibus.specs.SavedBusData.{SavedBusHasWord as BusHasWord}
 use Rattle.pdp_unibus.specs.SavedBusData.{saved_bus_with_word as bus_with_word}
 use Rattle.pdp_unibus.specs.SavedBusData.{saved_bus_with_stamps as bus_with_stamps}
 use Rattle.pdp_unibus.specs.SavedBusData.{saved_bus_over as bus_over}
-use Rattle.pdp_unibus.specs.declared.delays.Delays.{Delays}
+use Rattle.pdp_io_page.specs.declared.delays.Delays.{Delays}
 use Rattle.pdp_cpu.specs.KeptTexts.{without_turns}
 use Rattle.pdp_cpu.specs.Handbook.MachineState.{MachineState, MachineWithTexts}
 

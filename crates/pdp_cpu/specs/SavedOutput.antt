@@ -1,4 +1,4 @@
--- What came out of a machine from a turn on, and its first touches, apart from the machine [P].
+-- What came out of a machine from a turn on, and its first touches, apart from the machine.
 use Rattle.std.specs.Prelude.{ℕ, ◌≡◌, ◌-◌, ◌++◌, List, drop, length, take}
 use Rattle.pdp_store.specs.FirstTouches.{FirstTouches, all_first_touches_before}
 use Rattle.pdp_store.specs.Overlays.{first_touches_over}

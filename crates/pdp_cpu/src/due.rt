@@ -3,9 +3,10 @@ ghost use Rattle.pdp_cpu.specs.declared.due.Due.TheVariants.{Instruction};
 ghost use Rattle.pdp_cpu.specs.Handbook.Due.{act_of, due_now};
 
 use crate::act::Act;
+use pdp_io_page::Source;
 use pdp_operand::{Processor, RunState};
 use pdp_store::Store;
-use pdp_unibus::{Bus, Source};
+use pdp_unibus::Bus;
 
 /// What is due in a turn that has begun.
 #[derive(Clone, Copy)]

@@ -4,7 +4,7 @@ ghost use Rattle.pdp_store.specs.FirstTouches.{first_touches_of, no_first_touche
 ghost use Rattle.pdp_operand.specs.Phases.Phase.{inner_of};
 ghost use Rattle.pdp_cpu.specs.KeptTexts.{without_turns};
 ghost use Rattle.pdp_cpu.specs.Handbook.Due.{act_of, due_of};
-ghost use Rattle.pdp_cpu.specs.Handbook.MachineState.{IsReady, powered_machine};
+ghost use Rattle.pdp_cpu.specs.Handbook.MachineState.{IsReady, machine_at_power_up};
 ghost use Rattle.pdp_cpu.specs.Handbook.MachineState.{machine_world, printed_kept, punched_kept};
 ghost use Rattle.pdp_cpu.specs.Handbook.MachineState.{state_with_log, touched_machine, with_begun};
 ghost use Rattle.pdp_cpu.specs.Turns.TurnRun.{RunsTouched, RunsTurn};
@@ -21,12 +21,13 @@ use crate::regs::Regs;
 use crate::take_due::take_what_is_due;
 use pdp_icache::Lines;
 use pdp_instruction::instruct;
+use pdp_io_page::Delays;
 use pdp_kt11::{MappingRegisters, Mode};
 use pdp_operand::{Processor, RegisterId, RunState};
 use pdp_quick::Computer;
 use pdp_rk11::Rk;
 use pdp_store::{Stamp, Store};
-use pdp_unibus::{Bus, Delays, DeviceRegisters, Event, LAST_TURN, PageRegisters};
+use pdp_unibus::{Bus, DeviceRegisters, Event, LAST_TURN, PageRegisters};
 use pdp_word::NoMemory;
 use std::alloc::Global;
 use std::marker::Model;
@@ -70,7 +71,7 @@ impl<S: Store, D: Store> Machine<S, D> {
     /// reader and these delays (turns): PC is the start address (octal, bytes), every other
     /// register and the program status word 0, the devices as after RESET, no drive locked [7.1]
     /// [7.2] [7.7]. It has run no turn, and printed and punched nothing. Takes no memory.
-    pub fn power(
+    pub fn at_power_up(
         alloc: Global,
         lines: Lines,
         start: u16,
@@ -80,7 +81,7 @@ impl<S: Store, D: Store> Machine<S, D> {
         delays: Delays,
     ) -> Self
         ensures state { result.state ≡ state_with_log (S.log words)
-            (powered_machine start (S.words words) (S.stamps words) (map D.words drives.items)
+            (machine_at_power_up start (S.words words) (S.stamps words) (map D.words drives.items)
             tape.items delays) }
         ensures kept_text { result.kept_text ≡ [] }
         ensures kept_punched { result.kept_punched ≡ [] }
@@ -89,7 +90,7 @@ impl<S: Store, D: Store> Machine<S, D> {
     {
         Machine {
             computer: Computer {
-                processor: Processor::power(start),
+                processor: Processor::at_power_up(start),
                 bus: Bus::new(lines, words, drives, tape, delays),
             },
             turn: 0,

@@ -7,9 +7,10 @@ ghost use Rattle.pdp_cpu.specs.Saved.{state_on};
 ghost use Rattle.pdp_cpu.specs.Handbook.MachineState.{state_with_tape};
 
 use crate::machine::Machine;
+use pdp_io_page::Delays;
 use pdp_operand::Processor;
 use pdp_store::{Paged, PagedDrive};
-use pdp_unibus::{Delays, SavedBus};
+use pdp_unibus::SavedBus;
 use pdp_word::NoMemory;
 use std::alloc::Global;
 use std::marker::Model;

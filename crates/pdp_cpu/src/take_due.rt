@@ -9,15 +9,16 @@ ghost use Rattle.pdp_cpu.specs.Handbook.Due.{act_of, course_of, due_now, serve, 
 ghost use Rattle.pdp_cpu.specs.Handbook.Due.{take_stack as stack_taken, take_trace as trace_taken};
 ghost use Rattle.pdp_cpu.specs.Handbook.Due.{without_stack_trap, without_trace_trap};
 ghost use Rattle.pdp_cpu.specs.Handbook.TurnTrap.{trap_of_due};
-ghost use Rattle.pdp_unibus.specs.Handbook.Source.{vector_of};
+ghost use Rattle.pdp_io_page.specs.Handbook.Source.{vector_of};
 
 use crate::act::Act;
 use crate::due::Due;
 use crate::turn_trap::ActWithTrap;
 use pdp_instruction::{SavedContext, begin_sequence, instruct, instruct_and_tell, vector};
+use pdp_io_page::Source;
 use pdp_operand::{Processor, RunState};
 use pdp_store::Store;
-use pdp_unibus::{Bus, Source};
+use pdp_unibus::Bus;
 
 /// The trace trap is no longer pending, and waiting ends.
 fn take_trace(processor: &mut Processor)

@@ -110,8 +110,8 @@ impl Transmitter {
         self.ready_enable.serve();
     }
 
-    // A byte begins to go out. One that comes while another is on its way replaces it, and is due
-    // when that one was.
+    /// A byte begins to go out. One that comes while another is on its way replaces it, and is due
+    /// when that one was.
     fn write_byte(&mut self, byte: u8, turn: u32, delay: u32)
         ensures { self.new ≡ byte_written byte turn delay self.old }
     {

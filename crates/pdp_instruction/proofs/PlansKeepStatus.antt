@@ -5,7 +5,7 @@ use Rattle.pdp_decode.specs.declared.instruction.Instr.{Instr}
 use Rattle.pdp_decode.specs.declared.instruction.Specifier.{Specifier}
 use Rattle.pdp_word.specs.declared.size.Size.{Size}
 use Rattle.pdp_word.specs.declared.size.Size.TheVariants.{Word, Byte}
-use Rattle.pdp_unibus.specs.declared.status.Status.{Status}
+use Rattle.pdp_io_page.specs.declared.status.Status.{Status}
 use Rattle.pdp_operand.specs.Phases.Phase.{State, Stop}
 use Rattle.pdp_operand.specs.Phases.Plan.{one, run_plan}
 use Rattle.pdp_operand.specs.declared.place.Fill.{Fill}

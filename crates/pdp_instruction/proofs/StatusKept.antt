@@ -4,12 +4,12 @@ use Rattle.pdp_kt11.specs.declared.place.Access.TheVariants.{Read}
 use Rattle.pdp_unibus.proofs.Frame.{use_leaves}
 use Rattle.pdp_unibus.specs.Handbook.BusWorld.{BusWorld, with_mapping}
 use Rattle.pdp_unibus.specs.Handbook.Cycle.{Slave, Core, Device, Nobody, slave_at}
-use Rattle.pdp_unibus.specs.Laws.{Reading}
-use Rattle.pdp_unibus.specs.Handbook.Register.{after_read}
-use Rattle.pdp_unibus.specs.declared.io_page.IoPage.{IoPage}
-use Rattle.pdp_unibus.specs.declared.register.Register.{Register}
-use Rattle.pdp_unibus.specs.declared.register.Register.TheVariants as register
-use Rattle.pdp_unibus.specs.declared.status.Status.{Status}
+use Rattle.pdp_io_page.specs.Laws.{Reading}
+use Rattle.pdp_io_page.specs.Handbook.Register.{after_read}
+use Rattle.pdp_io_page.specs.declared.io_page.IoPage.{IoPage}
+use Rattle.pdp_io_page.specs.declared.register.Register.{Register}
+use Rattle.pdp_io_page.specs.declared.register.Register.TheVariants as register
+use Rattle.pdp_io_page.specs.declared.status.Status.{Status}
 use Rattle.pdp_decode.specs.declared.instruction.Specifier.{Specifier}
 use Rattle.pdp_decode.specs.declared.instruction.Specifier.TheVariants as specifier
 use Rattle.pdp_word.specs.declared.size.Size.{Size}

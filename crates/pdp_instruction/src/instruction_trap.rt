@@ -44,7 +44,7 @@ pub fn instruct_and_tell<S: Store, D: Store>(
     }
 }
 
-// Executes the instruction that was fetched, and returns its trap.
+/// Executes the instruction that was fetched, and returns its trap.
 #[tactic(auto, using(crate::proofs::Rules::endings), unfolding(crate::proofs::Rules::courses))]
 fn execute_and_tell<S: Store, D: Store>(
     processor: &mut Processor,

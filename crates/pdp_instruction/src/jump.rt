@@ -13,10 +13,10 @@ use pdp_store::Store;
 use pdp_unibus::Bus;
 use pdp_word::Size;
 
-// Where a word is pushed: -(SP).
+/// Where a word is pushed: -(SP).
 pub const PUSH: Specifier = Specifier::Autodecrement(6);
 
-// Where a word is popped: (SP)+.
+/// Where a word is popped: (SP)+.
 pub const POP: Specifier = Specifier::Autoincrement(6);
 
 /// The address that a jump goes to, which is that of its operand. In the yellow zone of the

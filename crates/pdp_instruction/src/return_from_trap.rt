@@ -6,10 +6,11 @@ ghost use Rattle.pdp_instruction.specs.Handbook.ReturnFromTrap.{returned_status 
 ghost use Rattle.pdp_instruction.specs.Handbook.ReturnFromTrap.{return_plan};
 
 use crate::jump::POP;
+use pdp_io_page::Status;
 use pdp_kt11::Mode;
 use pdp_operand::{Processor, RegisterId, Trap, address, fetch};
 use pdp_store::Store;
-use pdp_unibus::{Bus, Status};
+use pdp_unibus::Bus;
 use pdp_word::Size;
 
 /// The mode that has the bits of either.

@@ -1,9 +1,10 @@
 ghost use Rattle.std.specs.Prelude.{◌≡◌};
 ghost use Rattle.pdp_instruction.specs.Handbook.TrapSequence.{context};
 
+use pdp_io_page::Status;
 use pdp_operand::{Processor, RegisterId};
 use pdp_store::Store;
-use pdp_unibus::{Bus, Status};
+use pdp_unibus::Bus;
 
 /// PC and the program status when the first sequence of a turn begins: what a trap saves. The red
 /// sequence that may follow saves the same [P].

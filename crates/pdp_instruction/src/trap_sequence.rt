@@ -16,10 +16,11 @@ ghost use Rattle.pdp_instruction.specs.Handbook.TrapSequence.{trap_vector, vecto
 ghost use Rattle.pdp_instruction.specs.KeptAnswers.{HasVector, IsNewMode, in_counter, in_status};
 
 use crate::saved_context::SavedContext;
+use pdp_io_page::Status;
 use pdp_kt11::Mode;
 use pdp_operand::{Cell, Processor, RegisterId, RunState, Trap, lower, read_word, write_word};
 use pdp_store::Store;
-use pdp_unibus::{Bus, Status};
+use pdp_unibus::Bus;
 
 /// The new PC of a trap, at its vector in kernel space.
 #[inline(always)]

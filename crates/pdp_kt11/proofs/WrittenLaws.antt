@@ -2,7 +2,7 @@
 use Rattle.std.proofs.Common.{◌≡◌, ℕ, ◌<◌, ◌==◌, Bool, true, false, not, ◌&&◌, ◌||◌, List, [], ◌∷◌, length, slice_index_or, slice_set, if◌then◌else◌, Option, Some, None, is_ok, refl, ◌∙◌, ap, arith, length-set, get_or-set_same, get_or-set_other}
 use Rattle.std.proofs.lemmas.Bool.{eqb-true, eqb-false}
 use Rattle.pdp_kt11.proofs.AbortLaws.{mapping_off, while_on}
-use Rattle.pdp_kt11.specs.Handbook.Kt.{kt_fetched, kt_written, page_at, powered_kt, with_page}
+use Rattle.pdp_kt11.specs.Handbook.Kt.{kt_fetched, kt_written, page_at, kt_at_power_up, with_page}
 use Rattle.pdp_kt11.specs.Laws.{HasEightPages, PowerClearsWrittenBits, PowerGivesEightPages, KtUse, UsesKeepEightPages, WrittenBitsTellTheTruth, kt_after_use, is_address_in, is_same_page, place_of, told_by, told_after, writes_through}
 use Rattle.pdp_kt11.specs.Handbook.Apr.{address_written, descriptor_written, empty_page, page_number, space_of}
 use Rattle.pdp_kt11.specs.Handbook.Translation.{abort_in, block_of, checked_translation, mapped_in, page_of, with_w_bit, translate}
@@ -188,11 +188,11 @@ written_tells space number (use_of ∷ uses) kt eight =
 
 -- as of power-up
 pub power_gives_pages : PowerGivesEightPages
-unfolding powered_kt
+unfolding kt_at_power_up
 power_gives_pages = record { kernel = refl; user = refl }
 
-pub powered_page : (space : Space) (number : PageNumber) → page_at space number powered_kt ≡ empty_page
-unfolding page_at powered_kt
+pub powered_page : (space : Space) (number : PageNumber) → page_at space number kt_at_power_up ≡ empty_page
+unfolding page_at kt_at_power_up
 powered_page Kernel P0 = refl
 powered_page Kernel P1 = refl
 powered_page Kernel P2 = refl

@@ -10,7 +10,7 @@ use Rattle.pdp_kt11.specs.Handbook.Bits.{sr0_mode}
 use Rattle.pdp_kt11.specs.Handbook.Bits.{sr0_non_resident}
 use Rattle.pdp_kt11.specs.Handbook.Bits.{sr0_page, sr0_read_only}
 use Rattle.pdp_kt11.specs.Handbook.Kt.{kt_fetched, kt_reset, kt_value, kt_written, page_at}
-use Rattle.pdp_kt11.specs.Handbook.Kt.{powered_kt}
+use Rattle.pdp_kt11.specs.Handbook.Kt.{kt_at_power_up}
 use Rattle.pdp_kt11.specs.Handbook.Mode.{mode_bits}
 use Rattle.pdp_kt11.specs.Handbook.Apr.{page_number, space_of}
 use Rattle.pdp_kt11.specs.Handbook.Place.{unmapped_address}
@@ -231,11 +231,11 @@ UsesKeepEightPages = (uses : List KtUse) (kt : MappingRegisters) → HasEightPag
 
 -- as of power-up each space has its eight pages, and W of each is clear
 abbrev pub PowerGivesEightPages : Type 0
-PowerGivesEightPages = HasEightPages powered_kt
+PowerGivesEightPages = HasEightPages kt_at_power_up
 
 abbrev pub PowerClearsWrittenBits : Type 0
 PowerClearsWrittenBits = (space : Space) (number : PageNumber) → (page_at space number
-    powered_kt).written ≡ false
+    kt_at_power_up).written ≡ false
 
 -- a page whose frame is one of bits 11-0, and whose length is one of bits 14-8
 pub record HasBitsInRange (page : Apr) : Type 0 where
@@ -249,7 +249,7 @@ PagesAreInRange kt = (space : Space) (number : PageNumber) → HasBitsInRange
 
 -- so they are as of power-up, and each use keeps them so
 abbrev pub PowerGivesPagesInRange : Type 0
-PowerGivesPagesInRange = PagesAreInRange powered_kt
+PowerGivesPagesInRange = PagesAreInRange kt_at_power_up
 
 abbrev pub UsesKeepPagesInRange : Type 0
 UsesKeepPagesInRange = (uses : List KtUse) (kt : MappingRegisters) → HasEightPages kt

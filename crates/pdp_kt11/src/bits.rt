@@ -37,11 +37,17 @@ pub(crate) const PAGE_BYTES: u16 = 0o20000;
 /// The bytes of a block.
 pub(crate) const BLOCK_BYTES: u16 = 0o100;
 
+/// The words of a block.
+pub(crate) const BLOCK_WORDS: u16 = 0o40;
+
 /// The blocks of a page.
 pub(crate) const BLOCKS_OF_PAGE: u16 = 0o200;
 
 /// The physical addresses (bytes), of 18 bits.
 pub(crate) const PHYSICAL_ADDRESSES: u32 = 0o1000000;
+
+/// The physical words.
+pub(crate) const PHYSICAL_WORDS: u32 = 0o400000;
 
 /// The first virtual address of the I/O page while mapping is off.
 pub(crate) const IO_PAGE: u32 = 0o160000;

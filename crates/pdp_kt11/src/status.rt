@@ -122,14 +122,14 @@ impl MappingStatus {
     }
 }
 
-// Whether these are the same mode.
+/// Whether these are the same mode.
 fn is_same_mode(some: Mode, other: Mode) -> bool
     ensures { (result ≡ true) ↔ (some ≡ other) }
 {
     some == other
 }
 
-// Whether these are the same page.
+/// Whether these are the same page.
 fn is_same_page(some: PageNumber, other: PageNumber) -> bool
     ensures { (result ≡ true) ↔ (some ≡ other) }
 {

@@ -7,7 +7,7 @@ use Rattle.pdp_kt11.specs.declared.place.Abort.{Abort}
 use Rattle.pdp_kt11.specs.declared.status.MappingStatus.{MappingStatus}
 use Rattle.pdp_unibus.specs.Handbook.BusWorld.{BusWorld, with_mapping}
 use Rattle.pdp_unibus.specs.Handbook.Cycle.{Slave, Core, Device, Nobody, slave_at}
-use Rattle.pdp_unibus.specs.declared.io_page.IoPage.{IoPage}
+use Rattle.pdp_io_page.specs.declared.io_page.IoPage.{IoPage}
 use Rattle.pdp_operand.specs.Handbook.Reference.{Kind, ReadWord, ReadByte, WriteWord, WriteByte, Reference, Reply, access_of, is_odd, translation}
 use Rattle.pdp_operand.specs.Laws.Aborted.{AbortsLeaveCore, FailsWith, ReadOnlyPagesKeepTheirWords, ToldAbortsLeaveCore, refusal_of, with_mapping_status}
 use Rattle.pdp_action.specs.declared.trap.Trap.{Trap}

@@ -2,10 +2,10 @@
 use Rattle.std.proofs.Common.{◌≡◌, ◌∙◌, ℕ, ◌<◌, ◌*◌, ◌/◌, Bool, true, false, List, [], refl, Ok, Err, Option, None, Some, Result, length, slice_index, nat_lt, if◌then◌else◌, ltb-true, length-set}
 use Rattle.pdp_kt11.specs.declared.place.Access.TheVariants.{Read, Write}
 use Rattle.pdp_unibus.specs.Handbook.BusWorld.{BusWorld, with_io_page, with_mapping}
-use Rattle.pdp_unibus.specs.declared.io_page.IoPage.{IoPage}
+use Rattle.pdp_io_page.specs.declared.io_page.IoPage.{IoPage}
 use Rattle.pdp_unibus.specs.Handbook.Cycle.{Slave, Core, Device, Nobody, Answer, device_slave, slave_at, read_from, write_to, write_byte_to, core_read, core_stored, told_read, told_write, told_byte_write}
-use Rattle.pdp_unibus.specs.Handbook.Register.{register_at, value_in, after_byte, after_read, after_write, word_with_byte}
-use Rattle.pdp_unibus.specs.declared.register.Register.{Register}
+use Rattle.pdp_io_page.specs.Handbook.Register.{register_at, value_in, after_byte, after_read, after_write, word_with_byte}
+use Rattle.pdp_io_page.specs.declared.register.Register.{Register}
 use Rattle.pdp_operand.specs.Handbook.Reference.{Kind, ReadWord, ReadByte, WriteWord, WriteByte, Reference, Reply, half_at, reply_of, at_place, perform, is_odd, translation, access_of}
 use Rattle.pdp_kt11.specs.declared.place.Abort.{Abort}
 use Rattle.pdp_operand.specs.Laws.Trace.{touch_at, touches_if_placed, touches}

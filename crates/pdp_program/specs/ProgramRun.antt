@@ -3,7 +3,7 @@ use Rattle.std.specs.Prelude.{◌≡◌, ℕ, ◌++◌, List, [], Option, Result
 use Rattle.std.specs.Io.KnownBytes.{Appends}
 use Rattle.clap.specs.Words.{Text, fault_of}
 use Rattle.pdp_script.specs.declared.faults.Fault.{Fault}
-use Rattle.pdp_unibus.specs.Handbook.Delays.{standard_delays}
+use Rattle.pdp_io_page.specs.Handbook.Delays.{standard_delays}
 use Rattle.pdp_replay.specs.Past.{starting_past}
 use Rattle.pdp_replay.specs.Past.Setup.{SetupData}
 use Rattle.pdp_session.specs.Language.{Language}

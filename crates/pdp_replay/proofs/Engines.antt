@@ -4,8 +4,8 @@ use Rattle.std.specs.declared.hash.BuildHasherDefault.{BuildHasherDefault}
 use Rattle.std.specs.declared.hash.FoldHasher.{FoldHasher}
 use Rattle.indexmap.specs.IndexMap.{IndexMap}
 use Rattle.pdp_script.specs.Script.{ScriptData}
-use Rattle.pdp_unibus.specs.Handbook.Delays.{standard_delays}
-use Rattle.pdp_unibus.specs.declared.delays.Delays.{Delays}
+use Rattle.pdp_io_page.specs.Handbook.Delays.{standard_delays}
+use Rattle.pdp_io_page.specs.declared.delays.Delays.{Delays}
 use Rattle.pdp_replay.specs.Past.FirstWords.{AllThere}
 use Rattle.pdp_replay.specs.Run.KeptRuns.{IsKeptRun}
 use Rattle.pdp_replay.specs.Past.{past_from, past_without_events}

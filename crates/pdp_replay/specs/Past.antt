@@ -6,7 +6,7 @@ use Rattle.indexmap.specs.IndexMap.{IndexMap}
 use Rattle.pdp_script.specs.Refusal.{result_map}
 use Rattle.pdp_script.specs.Script.{ScriptData}
 use Rattle.pdp_script.specs.declared.faults.Fault.{Fault}
-use Rattle.pdp_unibus.specs.declared.delays.Delays.{Delays}
+use Rattle.pdp_io_page.specs.declared.delays.Delays.{Delays}
 use Rattle.pdp_replay.specs.Past.Setup.{SetupData, setup_from, setup_checked}
 use Rattle.pdp_store.specs.declared.part.WordAt.{WordAt}
 use Rattle.pdp_replay.specs.declared.past.base_setup.BaseSetup.{BaseSetup}

@@ -1,10 +1,10 @@
--- An engine as a contract sees it [P].
+-- An engine as a contract sees it.
 use Rattle.std.specs.Prelude.{ℕ, ◌/◌, ◌≤◌, ◌&&◌, Bool, true, false, List, min, nat_le, unwrap_or}
 use Rattle.std.specs.Prelude.{Result, Ok, Err}
 use Rattle.pdp_script.specs.Refusal.{past_left}
 use Rattle.pdp_unibus.specs.Handbook.LastTurn.{last_turn}
 use Rattle.pdp_script.specs.declared.faults.Fault.{Fault}
-use Rattle.pdp_unibus.specs.declared.delays.DelayedDevice.{DelayedDevice}
+use Rattle.pdp_io_page.specs.declared.delays.DelayedDevice.{DelayedDevice}
 use Rattle.pdp_unibus.specs.declared.event.Event.{Event}
 use Rattle.pdp_store.specs.declared.part.Part.{Part}
 use Rattle.pdp_store.specs.declared.part.Part.TheVariants as part
@@ -32,8 +32,8 @@ pub record Timeline : Type 0 where
   pub current : Bool
 
 -- an engine as it is made
-abbrev pub fresh : SetupData → Timeline
-fresh s = record {
+abbrev pub new_timeline : SetupData → Timeline
+new_timeline s = record {
   past = past_without_events s;
   known = 0;
   highest = 0;

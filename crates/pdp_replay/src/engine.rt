@@ -8,7 +8,7 @@ ghost use Rattle.pdp_replay.specs.Run.Checkpoints.{KeepsTexts, ShowsTexts};
 ghost use Rattle.pdp_replay.specs.Ask.Known.{RunsFrom, IsWithinBound, LeavesPast};
 ghost use Rattle.pdp_replay.specs.Ask.Told.{IsAtTurn, IsToldOf};
 ghost use Rattle.pdp_replay.specs.Run.States.{at};
-ghost use Rattle.pdp_replay.specs.Timeline.{fresh};
+ghost use Rattle.pdp_replay.specs.Timeline.{new_timeline};
 
 use crate::ask::{Question, Told, Value};
 use crate::past::{BaseSetup, DriveCount, Setup, SetupNumbers};
@@ -16,9 +16,9 @@ use crate::run::KeptRun;
 use indexmap::IndexMap;
 use pdp_checkpoint::Ladder;
 use pdp_cpu::PagedMachine;
+use pdp_io_page::Delays;
 use pdp_script::{Entry, Fault, Script};
 use pdp_store::WordAt;
-use pdp_unibus::Delays;
 use pdp_word::NoMemory;
 use std::alloc::Global;
 use std::marker::Model;
@@ -68,7 +68,7 @@ impl Engine {
     /// memory was refused. [P]
     #[tactic(auto, unfolding(crate::specs::Past::Setup::setup_checked))]
     pub fn new(alloc: Global, setup: Setup) -> Result<Engine, Fault>
-        ensures engine { result ≡ result_map fresh
+        ensures engine { result ≡ result_map new_timeline
             (question_answer (setup_checked (given_setup setup)) (for_memory result)) }
     {
         setup.check()?;
@@ -88,7 +88,7 @@ impl Engine {
             drives: DriveCount::One,
             stride,
         };
-        let run = KeptRun::power(alloc, &base_setup, tape)?;
+        let run = KeptRun::at_power_up(alloc, &base_setup, tape)?;
         Ok(Engine {
             base_setup,
             delays: Delays::standard(),

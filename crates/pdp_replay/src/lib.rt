@@ -82,6 +82,7 @@ pub use laws::{
 };
 pub use past::{DEFAULT_STRIDE, PastEdit, Patch, Setup, SetupNumbers};
 pub use pdp_cpu::{Act, DeviceRegisters, PageRegisters, Regs, RunState};
+pub use pdp_io_page::{DelayedDevice, Delays};
 pub use pdp_script::{Entry, Fault, ScriptEdit};
 pub use pdp_store::Agent;
-pub use pdp_unibus::{DelayedDevice, Delays, Event};
+pub use pdp_unibus::Event;

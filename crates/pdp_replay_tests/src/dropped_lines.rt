@@ -2,8 +2,9 @@
 
 use pdp_cpu::{Machine, Meter};
 use pdp_icache::Lines;
+use pdp_io_page::Delays;
 use pdp_store::{Flat, Store};
-use pdp_unibus::{Delays, LAST_TURN};
+use pdp_unibus::LAST_TURN;
 use pdp_word::NoMemory;
 use std::alloc::Global;
 
@@ -25,7 +26,7 @@ fn machine_of(alloc: Global) -> Result<Machine<Flat, Flat>, NoMemory> {
     put(&mut core);
     let lines = Lines::new(alloc)?;
     let (drives, tape) = (Vec::new(alloc), Vec::new(alloc));
-    Ok(Machine::power(alloc, lines, 0o1000, core, drives, tape, Delays::standard()))
+    Ok(Machine::at_power_up(alloc, lines, 0o1000, core, drives, tape, Delays::standard()))
 }
 
 fn run_without_lines(machine: &mut Machine<Flat, Flat>, turns: u32) -> Result<(), NoMemory> {

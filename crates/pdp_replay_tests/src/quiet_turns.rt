@@ -1,8 +1,9 @@
 //! Which turns begin quietly: no contract says that any does.
 
 use pdp_icache::Lines;
+use pdp_io_page::{DelayedDevice, Delays};
 use pdp_store::Flat;
-use pdp_unibus::{Bus, DelayedDevice, Delays, LAST_TURN};
+use pdp_unibus::{Bus, LAST_TURN};
 use pdp_word::NoMemory;
 use std::alloc::Global;
 use std::process::Abort;

@@ -74,7 +74,7 @@ impl Rk {
         }
     }
 
-    // Ready again.
+    /// Ready again.
     fn finish_function(&mut self)
         ensures { self.new ≡ rk_finished self.old }
     {
@@ -82,7 +82,7 @@ impl Rk {
         self.operation = Operation::Idle;
     }
 
-    // What is under way, or why it can't be done.
+    /// What is under way, or why it can't be done.
     fn run_unless_refused<S: Store, D: Store>(&mut self, core: &mut S, drives: &mut [D], turn: u32)
         ensures world { stored_world S.words S.stamps D.words self.new core.new drives.new
             ≡ run_unless_refused (refusal self.old (length drives.old)) turn
@@ -103,7 +103,7 @@ impl Rk {
         }
     }
 
-    // Why the function can't be done with this number of drives, if so.
+    /// Why the function can't be done with this number of drives, if so.
     #[tactic(auto, unfolding(crate::specs::Handbook::Completion::refusal))]
     fn refusal(&self, drives: usize) -> Option<Failure>
         ensures value { result ≡ refusal self.now drives }
@@ -124,7 +124,7 @@ impl Rk {
         }
     }
 
-    // What the function does, if nothing forbids it.
+    /// What the function does, if nothing forbids it.
     fn run_function<S: Store, D: Store>(&mut self, core: &mut S, drives: &mut [D], turn: u32)
         requires drive { drive_in self.old.disk_address < length drives.old }
         requires sector { names_sector self.old.function ≡ true → sector_number
@@ -152,7 +152,7 @@ impl Rk {
         }
     }
 
-    // The drive that RKDA names is locked, for good.
+    /// The drive that RKDA names is locked, for good.
     fn lock(&mut self)
         ensures { self.new ≡ write_locked self.old }
     {
@@ -160,7 +160,7 @@ impl Rk {
         self.locked[drive] = true;
     }
 
-    // Words are moved or compared.
+    /// Words are moved or compared.
     #[tactic(auto, unfolding(crate::specs::rk_transferred), using(crate::proofs::Rules::maps))]
     fn transfer<S: Store, D: Store>(&mut self, core: &mut S, drives: &mut [D], turn: u32)
         requires drive { drive_in self.old.disk_address < length drives.old }
@@ -184,7 +184,7 @@ impl Rk {
         self.end_transfer(size, transfer, different);
     }
 
-    // The words of a transfer, with `words` words of core and a drive of `size` words.
+    /// The words of a transfer, with `words` words of core and a drive of `size` words.
     #[tactic(auto, unfolding(crate::specs::Handbook::Completion::transfer_of))]
     fn transfer_of(&self, words: usize, size: usize) -> Transfer
         requires { sector_number self.now.disk_address < sectors_of_drive }
@@ -209,21 +209,21 @@ impl Rk {
         }
     }
 
-    // The number of the word of core at the bus address.
+    /// The number of the word of core at the bus address.
     fn core_word(&self) -> u32
         ensures { result ≡ core_word_of_bus_address self.now.address }
     {
         self.address % BUS_ADDRESSES / 2
     }
 
-    // How many words were asked for.
+    /// How many words were asked for.
     fn words_asked(&self) -> u32
         ensures { result ≡ words_asked self.now }
     {
         MOST_WORDS - u32::from(self.word_count)
     }
 
-    // How many of the words asked for come before an address outside a core of `words` words.
+    /// How many of the words asked for come before an address outside a core of `words` words.
     fn within_core(&self, words: usize) -> usize
         ensures { result ≡ within_core self.now words }
     {
@@ -235,7 +235,7 @@ impl Rk {
         }
     }
 
-    // Touches the words of a transfer.
+    /// Touches the words of a transfer.
     #[tactic(auto, using(crate::proofs::Names::map_get, crate::proofs::Names::map_with))]
     fn touch_words<S: Store, D: Store>(
         &self,
@@ -264,7 +264,7 @@ impl Rk {
         transfer.touch(self.function, core, &mut drives[drive], turn);
     }
 
-    // Moves or compares the words. Whether a write check found words that differ.
+    /// Moves or compares the words. Whether a write check found words that differ.
     #[tactic(auto, using(crate::proofs::Names::map_get, crate::proofs::Names::map_with))]
     fn move_words<S: Store, D: Store>(
         &self,
@@ -309,8 +309,8 @@ impl Rk {
         }
     }
 
-    // The registers tell how the transfer with a drive of this size (words) ended, and whether a
-    // write check differed.
+    /// The registers tell how the transfer with a drive of this size (words) ended, and whether a
+    /// write check differed.
     #[tactic(auto, unfolding(crate::specs::Handbook::Completion::registers_after))]
     fn end_transfer(&mut self, size: usize, transfer: Transfer, different: bool)
         requires count { transfer.count ≤ most_words_asked }
@@ -328,7 +328,7 @@ impl Rk {
         };
     }
 
-    // Where the bus address is left.
+    /// Where the bus address is left.
     fn address_after(&self, transfer: Transfer) -> u32
         requires count { transfer.count ≤ most_words_asked }
         requires core_start { transfer.core_start < bus_words }
@@ -341,7 +341,7 @@ impl Rk {
         }
     }
 
-    // Where the disk address is left: past the last sector in which a word was done.
+    /// Where the disk address is left: past the last sector in which a word was done.
     fn disk_address_after(&self, transfer: Transfer) -> u16
         requires count { transfer.count ≤ most_words_asked }
         requires disk_start { transfer.disk_start < sectors_of_drive * words_of_sector }
@@ -355,7 +355,7 @@ impl Rk {
         }
     }
 
-    // Why the transfer stopped before its end, if it did.
+    /// Why the transfer stopped before its end, if it did.
     fn stop_of(&self, transfer: Transfer, size: usize) -> Option<Failure>
         ensures { result ≡ stop_of transfer.count (words_asked self.now)
             (size - transfer.disk_start) }

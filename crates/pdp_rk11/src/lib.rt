@@ -20,8 +20,8 @@
 //!   compared (`Rk::words_done`, `words_done_are_counted`).
 //! - A completion does the same whatever last stamps core has (`stamps_disturb_no_completion`).
 //!
-//! The drives themselves, addresses, how a byte is written to a register, when a function
-//! completes, and which request is served are left to pdp_unibus.
+//! Addresses, how a byte is written to a register and which request is served are left to
+//! pdp_io_page, the drives themselves and when a function completes to pdp_unibus.
 #![tactic(auto)]
 
 mod bits;
@@ -43,4 +43,4 @@ pub use laws::{
     what_is_written_and_read_back_is_the_same, words_done_are_counted,
 };
 pub use register::RkRegister;
-pub use rk::Rk;
+pub use rk::{ControlWrite, Rk};

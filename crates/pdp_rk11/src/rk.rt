@@ -40,6 +40,14 @@ pub struct Rk {
     pub operation: Operation,
 }
 
+/// A word that is written to RKCS in a turn, and how many turns a function takes then.
+#[derive(Clone, Copy)]
+pub struct ControlWrite {
+    pub word: u16,
+    pub turn: u32,
+    pub delay: u32,
+}
+
 impl Rk {
     ghost use Rattle.pdp_rk11.specs.Handbook.Geometry.{drive_in};
     ghost use Rattle.pdp_rk11.specs.Handbook.Rk.{begun_function, rk_commanded, control_word};
@@ -124,7 +132,7 @@ impl Rk {
     {
         match register {
             RkRegister::DriveStatus | RkRegister::Error => {}
-            RkRegister::Control => self.write_control(word, turn, delay),
+            RkRegister::Control => self.write_control(ControlWrite { word, turn, delay }),
             RkRegister::WordCount => {
                 if self.ready_enable.ready {
                     self.word_count = word;
@@ -182,7 +190,7 @@ impl Rk {
         usize::from(drive_in(self.disk_address))
     }
 
-    // Whether the drive that RKDA names is locked.
+    /// Whether the drive that RKDA names is locked.
     pub(crate) fn is_locked(&self) -> bool
         ensures { result ≡ is_locked self.now }
     {
@@ -226,52 +234,53 @@ impl Rk {
         errors + flags + self.ready_enable.status() + high_address + function
     }
 
-    // A write of a word to RKCS.
-    fn write_control(&mut self, word: u16, turn: u32, delay: u32)
-        ensures { self.new ≡ control_written word turn delay self.old }
+    /// A write of a word to RKCS.
+    fn write_control(&mut self, write: ControlWrite)
+        ensures { self.new ≡ control_written write self.old }
     {
         if self.ready_enable.ready {
-            self.command(word, turn, delay);
+            self.command(write);
         } else {
-            self.ready_enable.write_enable(word);
+            self.ready_enable.write_enable(write.word);
         }
     }
 
-    // A write of a word to RKCS while ready, without go or with it.
-    fn command(&mut self, word: u16, turn: u32, delay: u32)
-        ensures { self.new ≡ rk_commanded word turn delay self.old }
+    /// A write of a word to RKCS while ready, without go or with it.
+    fn command(&mut self, write: ControlWrite)
+        ensures { self.new ≡ rk_commanded write self.old }
     {
-        if is_set(RKCS_GO, word) {
-            self.go(word, turn, delay);
+        if is_set(RKCS_GO, write.word) {
+            self.go(write);
         } else {
-            self.set_command(word);
-            self.ready_enable.write_enable(word);
+            self.set_command(write.word);
+            self.ready_enable.write_enable(write.word);
         }
     }
 
-    // Go with the function of this word.
-    fn go(&mut self, word: u16, turn: u32, delay: u32)
-        ensures { self.new ≡ gone_with (function_of (field 1 3 word)) word turn delay self.old }
+    /// Go with the function of this word.
+    fn go(&mut self, write: ControlWrite)
+        ensures { self.new ≡ gone_with (function_of (field 1 3 write.word)) write self.old }
     {
-        match Function::of_code(field(1, 3, word)) {
+        match Function::of_code(field(1, 3, write.word)) {
             Function::ControlReset => self.reset(),
-            _ => self.begin_function(word, turn, delay),
+            _ => self.begin_function(write),
         }
     }
 
-    // A function begins.
-    fn begin_function(&mut self, word: u16, turn: u32, delay: u32)
-        ensures { self.new ≡ begun_function word turn delay self.old }
+    /// A function begins.
+    fn begin_function(&mut self, write: ControlWrite)
+        ensures { self.new ≡ begun_function write self.old }
     {
-        self.set_command(word);
-        self.ready_enable.change(false, is_set(RKCS_ENABLE, word));
+        self.set_command(write.word);
+        self.ready_enable
+            .change(false, is_set(RKCS_ENABLE, write.word));
         self.search_complete = false;
         self.write_check = false;
         self.failure = None;
-        self.operation = Operation::begin(turn, delay);
+        self.operation = Operation::begin(write.turn, write.delay);
     }
 
-    // Sets the function, bits 17-16 of the bus address, and no increment.
+    /// Sets the function, bits 17-16 of the bus address, and no increment.
     fn set_command(&mut self, word: u16)
         ensures { self.new ≡ with_command word self.old }
     {
@@ -282,14 +291,14 @@ impl Rk {
     }
 }
 
-// Whether the same drives are locked.
+/// Whether the same drives are locked.
 fn are_same_locks(some: &[bool], others: &[bool]) -> bool
     ensures { (result ≡ true) ↔ (some.now ≡ others.now) }
 {
     some == others
 }
 
-// Whether these are the same failure, or none.
+/// Whether these are the same failure, or none.
 fn is_same_failure(some: Option<Failure>, other: Option<Failure>) -> bool
     ensures { (result ≡ true) ↔ (some ≡ other) }
 {

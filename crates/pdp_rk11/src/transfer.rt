@@ -52,7 +52,7 @@ impl Transfer {
         }
     }
 
-    // Each word goes to a word of its own.
+    /// Each word goes to a word of its own.
     #[tactic(auto, using(crate::proofs::Rules::memory_moves))]
     fn read_all<S: Store, D: Store>(self, core: &mut S, disk: &D, stamp: Stamp)
         requires on_disk { (i : ℕ) → i < self.count → self.disk_start + i < length
@@ -75,7 +75,7 @@ impl Transfer {
         }
     }
 
-    // All words go to one word of core: the last stays.
+    /// All words go to one word of core: the last stays.
     #[tactic(auto, using(crate::proofs::Rules::moves_to_one))]
     fn read_last<S: Store, D: Store>(self, core: &mut S, disk: &D, stamp: Stamp)
         requires on_disk { (i : ℕ) → i < self.count → self.disk_start + i < length
@@ -107,7 +107,7 @@ impl Transfer {
         self.fill_sector(disk);
     }
 
-    // Words of core go to the drive.
+    /// Words of core go to the drive.
     #[tactic(auto, using(crate::proofs::Rules::memory_moves))]
     fn write_all<S: Store, D: Store>(self, core: &S, disk: &mut D)
         requires on_disk { (i : ℕ) → i < self.count → disk_word self i < length (D.words disk.old) }
@@ -124,7 +124,7 @@ impl Transfer {
         }
     }
 
-    // Zeros go to the rest of the last sector.
+    /// Zeros go to the rest of the last sector.
     #[tactic(auto, using(crate::proofs::Rules::memory_moves))]
     fn fill_sector<D: Store>(self, disk: &mut D)
         ensures words { D.words disk.new
@@ -184,7 +184,7 @@ impl Transfer {
         }
     }
 
-    // Touches the words of core of the moves.
+    /// Touches the words of core of the moves.
     fn touch_core<S: Store>(self, function: Function, core: &mut S, turn: u32)
         requires in_core { is_read_check function ≡ false → (i : ℕ) → i < self.count
             → core_word self i < length (S.words core.old) }
@@ -202,7 +202,7 @@ impl Transfer {
         }
     }
 
-    // How many words of core the moves name.
+    /// How many words of core the moves name.
     fn words_named(self) -> u32
         ensures { result ≡ words_named self }
     {
@@ -213,7 +213,7 @@ impl Transfer {
         }
     }
 
-    // Touches the words of the drive of the moves.
+    /// Touches the words of the drive of the moves.
     fn touch_disk<D: Store>(self, function: Function, disk: &mut D, turn: u32)
         requires on_disk { (i : ℕ) → i < self.count → disk_word self i < length (D.words disk.old) }
         ensures kept { KeepsWritten D.words D.stamps disk.old disk.new }
@@ -228,7 +228,7 @@ impl Transfer {
         }
     }
 
-    // Touches the words that a write fills with zeros, which are in the page of its last word.
+    /// Touches the words that a write fills with zeros, which are in the page of its last word.
     fn touch_fill<D: Store>(self, disk: &mut D, turn: u32)
         requires on_disk { (i : ℕ) → i < self.count → disk_word self i < length (D.words disk.old) }
         requires aligned { self.disk_start % words_of_sector ≡ 0 }
@@ -241,7 +241,7 @@ impl Transfer {
         touch_run(disk, start, self.rest_of_sector(), turn);
     }
 
-    // The number of the word of core of move i, counted from 0.
+    /// The number of the word of core of move i, counted from 0.
     #[inline(always)]
     fn core_word(self, i: usize) -> usize
         requires { i < self.count }
@@ -254,7 +254,7 @@ impl Transfer {
         }
     }
 
-    // How many words are left of the last sector.
+    /// How many words are left of the last sector.
     fn rest_of_sector(self) -> usize
         ensures { result ≡ rest_of_sector self }
     {
@@ -264,7 +264,7 @@ impl Transfer {
     }
 }
 
-// Touches `count` words from word `start` on. Each page is touched once, by its first word.
+/// Touches `count` words from word `start` on. Each page is touched once, by its first word.
 fn touch_run<S: Store>(store: &mut S, start: usize, count: usize, turn: u32)
     requires room { 0 < count → (start + count - 1) / 256 * 256 < length (S.words store.old) }
     requires range { start + count < 2 ^ 40 }

@@ -8,7 +8,7 @@ use Rattle.pdp_session.specs.Language.{Language}
 use Rattle.pdp_session.specs.Session.{Ends, is_told_first}
 use Rattle.pdp_replay.specs.Past.{past_without_events}
 use Rattle.pdp_replay.specs.Past.Setup.{SetupData, setup_checked, has_good_numbers, has_good_images}
-use Rattle.pdp_replay.specs.Timeline.{Timeline, fresh}
+use Rattle.pdp_replay.specs.Timeline.{Timeline, new_timeline}
 
 abbrev is_start : Result SetupData Fault → Bool
 is_start (Ok setup) = true
@@ -39,15 +39,15 @@ start_refuses f setup fault refused e =
     is_start-result_map f (question_answer (setup_checked setup) refused) fault e ∙ question_answer-refuses (setup_checked setup) refused (setup_checked-refuses setup)
 
 -- a session begins with the past of its engine
-pub starts_with : (checked : Result SetupData Fault) (refused : Bool) (t : Timeline) → Ok t ≡ result_map fresh (question_answer checked refused)
+pub starts_with : (checked : Result SetupData Fault) (refused : Bool) (t : Timeline) → Ok t ≡ result_map new_timeline (question_answer checked refused)
     → result_map past_without_events checked ≡ Ok t.past
 starts_with (Ok setup) true t is = cc
-starts_with (Ok setup) false t is = let same : t ≡ fresh setup = cc in rw same refl
+starts_with (Ok setup) false t is = let same : t ≡ new_timeline setup = cc in rw same refl
 starts_with (Err fault) refused t is = cc
 
 -- and if there is none it has read and written nothing
 pub ends_refused : (language : Language) (checked : Result SetupData Fault) (refused : Bool) (fault : Fault) (rest : Option (List ℕ))
-    → Err fault ≡ result_map fresh (question_answer checked refused) → Ends language (result_map past_without_events checked) [] [] rest (Err fault)
+    → Err fault ≡ result_map new_timeline (question_answer checked refused) → Ends language (result_map past_without_events checked) [] [] rest (Err fault)
 ends_refused language (Ok setup) true fault rest is = let same : fault ≡ NoMemory = cc in rw same (refl, refl)
 ends_refused language (Ok setup) false fault rest is = cc
 ends_refused language (Err other) refused fault rest is = let same : fault ≡ other = cc in rw same (refl, refl, refl)

@@ -1,5 +1,5 @@
 -- The fields of a store that is taken as pages: its words and last stamps, and for each place of
--- 256 words a base, and a mark if a word was written since. [P]
+-- 256 words a base, and a mark if a word was written since.
 use Rattle.std.specs.Prelude.{ℕ, ◌≡◌, ◌<◌, ◌*◌, Bool, true, false, Option, Some, None, List, []}
 use Rattle.std.specs.Prelude.{◌∷◌, ◌++◌, length, map, take, drop, slice_get}
 use Rattle.pdp_store.specs.declared.Stamp.{Stamp}

@@ -1,5 +1,5 @@
 -- What the places of a drive hold, if a drive reads a place from its page until a word there is
--- written [P].
+-- written.
 use Rattle.std.specs.Prelude.{ℕ, ◌++◌, take, drop, ◌≡◌, ◌<◌, ◌*◌, ◌/◌, ◌%◌, ◌^◌, Bool, false}
 use Rattle.std.specs.Prelude.{Option, Some, None, List, [], length, map, slice_get, slice_index}
 use Rattle.std.specs.Prelude.{slice_index_or, replicate}

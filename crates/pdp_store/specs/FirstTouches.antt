@@ -1,4 +1,4 @@
--- First touches: for each page of 256 words, the first turn with an access to one of its words. [P]
+-- First touches: for each page of 256 words, the first turn with an access to one of its words.
 use Rattle.std.specs.Prelude.{ℕ, ◌/◌, ◌==◌, Option, Some, None, List, [], ◌∷◌, map, min, nat_lt}
 use Rattle.std.specs.Prelude.{slice_index_or, slice_set, if◌then◌else◌}
 use Rattle.pdp_store.specs.TracedAccess.{TracedAccess}

@@ -1,4 +1,4 @@
--- Last stamps and first touches of one run, from a turn on, laid over those of another run [P].
+-- Last stamps and first touches of one run, from a turn on, laid over those of another run.
 use Rattle.std.specs.Prelude.{ℕ, ◌≡◌, ◌<◌, ◌≤◌, ◌++◌, List, [], ◌∷◌, Option, Some, None, drop, length}
 use Rattle.std.specs.Prelude.{max, nat_le, nat_lt, take, if◌then◌else◌}
 use Rattle.pdp_store.specs.FirstTouches.{FirstTouches, first_touches_of}

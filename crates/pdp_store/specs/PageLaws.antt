@@ -1,4 +1,4 @@
--- What the laws of pages say [P]: each name is the law's sentence.
+-- What the laws of pages say: each name is the law's sentence.
 use Rattle.std.specs.Prelude.{ℕ, ◌≡◌, ◌+◌, ◌<◌, ◌≤◌, Option, Some, None, List, [], ◌∷◌, slice_get}
 use Rattle.pdp_store.specs.Pages.{given_after, most_serials, serials_taken}
 

@@ -1,4 +1,4 @@
--- Lists of pages with another page at one place [P].
+-- Lists of pages with another page at one place.
 use Rattle.std.specs.Prelude.{List, map}
 use Rattle.pdp_store.specs.declared.page.Page.{Page}
 use Rattle.pdp_store.specs.Pages.{SharedPage}

@@ -1,4 +1,4 @@
--- Pages of 256 words, shared between a store and what was taken of it [P].
+-- Pages of 256 words, shared between a store and what was taken of it.
 use Rattle.std.specs.Prelude.{ℕ, ◌≡◌, ◌+◌, ◌/◌, Bool, if◌then◌else◌, Option, Some, None, List, []}
 use Rattle.std.specs.Prelude.{◌∷◌, map, min, nat_lt, replicate, slice_set}
 use Rattle.std.specs.List.{flat_map}

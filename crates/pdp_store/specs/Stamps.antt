@@ -1,4 +1,4 @@
--- What the accesses of a trace leave of the last stamps of core [P].
+-- What the accesses of a trace leave of the last stamps of core.
 use Rattle.std.specs.Prelude.{ℕ, ◌≡◌, ◌<◌, ◌&&◌, List, [], ◌∷◌, Option, Some, None, length}
 use Rattle.std.specs.Prelude.{slice_index_or, slice_set, if◌then◌else◌}
 use Rattle.pdp_store.specs.TracedAccess.{TracedAccess, is_core, last_write, stamp_of}

@@ -9,17 +9,17 @@ use pdp_word::NoMemory;
 use std::alloc::Global;
 use std::rc::Rc;
 
-// The page last taken or loaded at a place.
+/// The page last taken or loaded at a place.
 #[derive(Drop)]
 pub(crate) enum Base {
-    // The page itself.
+    /// The page itself.
     Shared(Rc<Page>),
-    // Its serial alone, if it has as many owners as can be counted.
+    /// Its serial alone, if it has as many owners as can be counted.
     Numbered(u64),
 }
 
 impl Base {
-    // A base made of this page.
+    /// A base made of this page.
     pub(crate) fn of(page: &Rc<Page>) -> Base
         ensures { IsBaseOf result page.now }
     {
@@ -29,7 +29,7 @@ impl Base {
         }
     }
 
-    // The serial of the page.
+    /// The serial of the page.
     pub(crate) fn serial(&self) -> u64
         ensures { result ≡ serial_of self.now }
     {
@@ -39,10 +39,10 @@ impl Base {
         }
     }
 
-    // The page, for a place of these words and stamps: itself if it is here and can be shared, or
-    // made again.
-    //
-    // Err(NoMemory) if memory was refused.
+    /// The page, for a place of these words and stamps: itself if it is here and can be shared, or
+    /// made again.
+    ///
+    /// Err(NoMemory) if memory was refused.
     pub(crate) fn page(
         &self,
         alloc: Global,
@@ -63,9 +63,9 @@ impl Base {
     }
 }
 
-// A page of these words and these stamps under this serial.
-//
-// Err(NoMemory) if memory was refused.
+/// A page of these words and these stamps under this serial.
+///
+/// Err(NoMemory) if memory was refused.
 pub(crate) fn new_page(
     alloc: Global,
     serial: u64,

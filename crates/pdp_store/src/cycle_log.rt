@@ -81,7 +81,7 @@ impl CycleLog {
         self.cycles.truncate(0);
     }
 
-    // Whether the log is one of such cycles.
+    /// Whether the log is one of such cycles.
     fn keeps(&self, cycle: BusCycle) -> bool
         ensures { result ≡ keeps self.now.reads_of cycle }
     {
@@ -91,7 +91,7 @@ impl CycleLog {
         }
     }
 
-    // Whether it has room for any cycle, were it empty.
+    /// Whether it has room for any cycle, were it empty.
     pub(crate) fn has_room(&self) -> bool
         ensures { result ≡ nat_lt 0 self.now.room }
     {

@@ -17,10 +17,10 @@ use std::marker::Model;
 pub struct Flat {
     words: Vec<u16>,
 
-    // As many as the words; or empty, in a store without stamps.
+    /// As many as the words; or empty, in a store without stamps.
     stamps: Vec<LastStamp>,
 
-    // The first touch of each page of 256 words; the last page may have fewer.
+    /// The first touch of each page of 256 words; the last page may have fewer.
     touches: StoreTouches,
 }
 
@@ -59,7 +59,7 @@ impl Flat {
         })
     }
 
-    // Makes word `i` equal to `w`, and its last stamp, if the store has stamps, equal to `last`.
+    /// Makes word `i` equal to `w`, and its last stamp, if the store has stamps, equal to `last`.
     #[inline(always)]
     fn replace(&mut self, i: usize, w: u16, last: LastStamp)
         requires { i < length self.old.words }
@@ -117,6 +117,11 @@ impl Store for Flat {
 
     #[inline(always)]
     fn is_touched(&self, i: usize, turn: u32) -> bool {
+        self.touches.is_touched_there(i / PAGE_WORDS, turn)
+    }
+
+    #[inline(always)]
+    fn is_quiet_read(&self, i: usize, turn: u32) -> bool {
         self.touches.is_touched_there(i / PAGE_WORDS, turn)
     }
 

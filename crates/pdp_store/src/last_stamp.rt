@@ -1,11 +1,12 @@
-//! Last stamps as stores and pages keep them: in eight bytes, where an `Option<Stamp>` takes twelve.
+//! Last stamps as stores and pages keep them: in eight bytes, where an `Option<Stamp>` takes
+//! twelve.
 
 ghost use Rattle.std.specs.Prelude.{◌≡◌, true, None};
 
 use crate::{Agent, Stamp};
 use std::marker::Model;
 
-// In which turn a word was last written, and by whom.
+/// In which turn a word was last written, and by whom.
 #[derive(Clone, Copy, PartialEq, Eq)]
 enum WhenWritten {
     Never,
@@ -71,7 +72,7 @@ impl LastStamp {
         Some(Stamp { turn, agent })
     }
 
-    // Whether this is the other one.
+    /// Whether this is the other one.
     #[inline(always)]
     pub(crate) fn is_same(self, other: LastStamp) -> bool
         ensures { result ≡ true → self ≡ other }

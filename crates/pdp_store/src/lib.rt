@@ -22,7 +22,8 @@
 //!   has the words of pages, exactly ([`Paged::has_words`], [`SharedPaging::has_words`]).
 //! - A store can keep a log of the processor's bus cycles beside its words ([`Store::note`],
 //!   [`Logging`], [`CycleLog`]): all, or the reads at one address, while there is room. [`Flat`],
-//!   [`Paged`] and [`PagedDrive`] keep none.
+//!   [`Paged`] and [`PagedDrive`] keep none. A store says of a read whether it would change nothing
+//!   ([`Store::is_quiet_read`]).
 //! - The stamps that a trace of accesses leaves are those of its last writes
 //!   (`traces_leave_last_writes`).
 //! - A page with one word changed has the next serial and keeps its stamps (`page_with_word`). It
@@ -37,7 +38,7 @@
 #![tactic(auto)]
 
 ghost use Rattle.std.specs.Prelude.{◌≡◌, ◌<◌, ◌*◌, ◌/◌, length, map, nat_le, slice_index};
-ghost use Rattle.std.specs.Prelude.{slice_index_or, slice_set, nat_lt};
+ghost use Rattle.std.specs.Prelude.{◌&&◌, not, slice_index_or, slice_set, nat_lt};
 ghost use Rattle.pdp_store.specs.Stored.{HasLastOfEachOrNone};
 ghost use Rattle.pdp_store.specs.CycleLogs.{log_with};
 ghost use Rattle.pdp_store.specs.FirstTouches.{first_touches_before, never, first_turn, touch_page};
@@ -171,6 +172,14 @@ pub trait Store {
     fn is_touched(&self, i: usize, turn: u32) -> bool
         requires { i < length (words self.now) }
         ensures { result ≡ nat_le (slice_index_or (first_touches self.now) (i / 256) never) turn };
+
+    /// Whether a read of word `i` in turn `turn`, with its touch and its note in the log, would
+    /// change nothing: the log has no room, and the page of the word was touched in that turn or
+    /// before it.
+    fn is_quiet_read(&self, i: usize, turn: u32) -> bool
+        requires { i < length (words self.now) }
+        ensures { result ≡ (not (nat_lt 0 (log self.now).room)
+            && nat_le (slice_index_or (first_touches self.now) (i / 256) never) turn) };
 
     /// Drops the first touches of turn `turn` and of later turns; earlier ones stay.
     fn forget(&mut self, turn: u32)

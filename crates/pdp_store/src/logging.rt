@@ -53,6 +53,10 @@ impl<S: Store> Store for Logging<S> {
         self.store.is_touched(i, turn)
     }
 
+    fn is_quiet_read(&self, i: usize, turn: u32) -> bool {
+        !self.log.has_room() && self.store.is_touched(i, turn)
+    }
+
     fn forget(&mut self, turn: u32) {
         self.store.forget(turn);
     }

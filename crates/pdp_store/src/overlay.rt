@@ -14,7 +14,7 @@ use crate::page::{PAGE_WORDS, Page};
 use crate::page_runs::{are_same_words, piece_at, stamps_in, words_in};
 use std::rc::Rc;
 
-// A last stamp of this turn or a later one; otherwise the one under it.
+/// A last stamp of this turn or a later one; otherwise the one under it.
 fn stamp_over(turn: u32, under: LastStamp, over: LastStamp) -> LastStamp
     ensures { result ≡ stamp_over turn under over }
 {
@@ -24,7 +24,7 @@ fn stamp_over(turn: u32, under: LastStamp, over: LastStamp) -> LastStamp
     }
 }
 
-// The greatest turn of these last stamps; 0 if there are none.
+/// The greatest turn of these last stamps; 0 if there are none.
 pub(crate) fn latest_turn(stamps: &[LastStamp]) -> u32
     ensures { result ≡ latest_turn stamps.now }
 {
@@ -35,7 +35,7 @@ pub(crate) fn latest_turn(stamps: &[LastStamp]) -> u32
     latest
 }
 
-// The later of this turn and that of a last stamp.
+/// The later of this turn and that of a last stamp.
 #[inline(always)]
 fn later_turn(latest: u32, last: LastStamp) -> u32
     ensures { result ≡ later_turn latest last }
@@ -46,7 +46,7 @@ fn later_turn(latest: u32, last: LastStamp) -> u32
     }
 }
 
-// Lays the last stamps of these pages over those that are there.
+/// Lays the last stamps of these pages over those that are there.
 #[tactic(auto, unfolding(crate::specs::Pages::stamps_of))]
 pub(crate) fn lay_over(stamps: &mut [LastStamp], pages: &[Rc<Page>], turn: u32)
     requires { length (stamps_of pages.now) ≡ length stamps.old }
@@ -58,8 +58,8 @@ pub(crate) fn lay_over(stamps: &mut [LastStamp], pages: &[Rc<Page>], turn: u32)
     }
 }
 
-// Lays the last stamps of a page over those from word `start` on, and returns where they end. It
-// doesn't look at stamps that are all of earlier turns.
+/// Lays the last stamps of a page over those from word `start` on, and returns where they end. It
+/// doesn't look at stamps that are all of earlier turns.
 fn lay_page(stamps: &mut [LastStamp], start: usize, page: &Rc<Page>, turn: u32) -> usize
     requires { start + length (page_stamps page.now) ≤ length stamps.old }
     ensures end { result ≡ start + length (page_stamps page.now) }
@@ -76,7 +76,7 @@ fn lay_page(stamps: &mut [LastStamp], start: usize, page: &Rc<Page>, turn: u32) 
     lay_each(stamps, start, over, turn)
 }
 
-// Lays these last stamps over those from word `start` on, and returns where they end.
+/// Lays these last stamps over those from word `start` on, and returns where they end.
 fn lay_each(stamps: &mut [LastStamp], start: usize, over: &[LastStamp], turn: u32) -> usize
     requires { start + length over.now ≤ length stamps.old }
     ensures end { result ≡ start + length over.now }
@@ -92,7 +92,7 @@ fn lay_each(stamps: &mut [LastStamp], start: usize, over: &[LastStamp], turn: u3
     start + over.len()
 }
 
-// Lays a last stamp over that of word `i`.
+/// Lays a last stamp over that of word `i`.
 #[inline(always)]
 fn lay_one(stamps: &mut [LastStamp], i: usize, over: LastStamp, turn: u32)
     requires { i < length stamps.old }
@@ -106,11 +106,11 @@ fn lay_one(stamps: &mut [LastStamp], i: usize, over: LastStamp, turn: u32)
     }
 }
 
-// Makes the bases those that fit the words of these pages, with their last stamps laid over these.
-// It is called before the words and the stamps are changed.
-//
-// A place whose words and stamps stay keeps its base. Otherwise its page becomes its base if the
-// place will have the page's stamps; if not, the place is marked as written since.
+/// Makes the bases those that fit the words of these pages, with their last stamps laid over these.
+/// It is called before the words and the stamps are changed.
+///
+/// A place whose words and stamps stay keeps its base. Otherwise its page becomes its base if the
+/// place will have the page's stamps; if not, the place is marked as written since.
 pub(crate) fn put_bases_over(
     bases: &mut Vec<Base>,
     written: &mut Vec<bool>,
@@ -136,8 +136,8 @@ pub(crate) fn put_bases_over(
     }
 }
 
-// Whether a place isn't marked as written and keeps these words and stamps, if this page is loaded
-// over it.
+/// Whether a place isn't marked as written and keeps these words and stamps, if this page is loaded
+/// over it.
 fn keeps_base(
     is_written: bool,
     turn: u32,
@@ -152,7 +152,7 @@ fn keeps_base(
     !is_written && are_same_words(words, words_in(page)) && is_page_hidden(turn, under, page)
 }
 
-// Whether the stamps stay if those of this page are laid over them.
+/// Whether the stamps stay if those of this page are laid over them.
 fn is_page_hidden(turn: u32, under: &[LastStamp], page: &Rc<Page>) -> bool
     requires { length (page_stamps page.now) ≡ length under.now }
     ensures { result ≡ true → stamps_over turn under.now (page_stamps page.now) ≡ under.now }
@@ -160,7 +160,7 @@ fn is_page_hidden(turn: u32, under: &[LastStamp], page: &Rc<Page>) -> bool
     page.latest < turn || are_hidden(turn, under, stamps_in(page))
 }
 
-// Whether the stamps stay if these are laid over them.
+/// Whether the stamps stay if these are laid over them.
 fn are_hidden(turn: u32, under: &[LastStamp], over: &[LastStamp]) -> bool
     requires { length over.now ≡ length under.now }
     ensures { result ≡ true → stamps_over turn under.now over.now ≡ under.now }
@@ -173,7 +173,7 @@ fn are_hidden(turn: u32, under: &[LastStamp], over: &[LastStamp]) -> bool
     true
 }
 
-// Whether a last stamp stays if this one is laid over it.
+/// Whether a last stamp stays if this one is laid over it.
 #[inline(always)]
 fn is_hidden(turn: u32, under: LastStamp, over: LastStamp) -> bool
     ensures { result ≡ true → stamp_over turn under over ≡ under }
@@ -184,7 +184,7 @@ fn is_hidden(turn: u32, under: LastStamp, over: LastStamp) -> bool
     }
 }
 
-// Whether the stamps laid over those under them come to these.
+/// Whether the stamps laid over those under them come to these.
 fn is_laid(turn: u32, under: &[LastStamp], over: &[LastStamp], these: &[LastStamp]) -> bool
     requires over { length over.now ≡ length under.now }
     requires these { length these.now ≡ length under.now }

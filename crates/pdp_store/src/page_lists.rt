@@ -62,9 +62,9 @@ pub fn with_page(
     Ok(Rc::new(alloc, list)?)
 }
 
-// The list of these pages with this one at a place.
-//
-// Err(NoMemory) as above.
+/// The list of these pages with this one at a place.
+///
+/// Err(NoMemory) as above.
 fn list_with_page(
     alloc: Global,
     pages: &[Rc<Page>],
@@ -80,9 +80,9 @@ fn list_with_page(
     Ok(list)
 }
 
-// These pages once more.
-//
-// Err(NoMemory) as above.
+/// These pages once more.
+///
+/// Err(NoMemory) as above.
 fn shared(alloc: Global, pages: &[Rc<Page>]) -> Result<Vec<Rc<Page>>, NoMemory>
     ensures { IfOk result (λ list. pages_shared list.items ≡ pages_shared pages.now) }
 {

@@ -10,7 +10,7 @@ use crate::base::Base;
 use crate::page::{PAGE_WORDS, Page};
 use std::rc::Rc;
 
-// The 256 items at this place, or none, if there are none at all.
+/// The 256 items at this place, or none, if there are none at all.
 pub(crate) fn piece_at<T>(items: &[T], place: usize) -> &[T]
     requires { 0 < length items.now → place * 256 + 256 ≤ length items.now }
     ensures piece { result.now ≡ piece place items.now }
@@ -24,7 +24,7 @@ pub(crate) fn piece_at<T>(items: &[T], place: usize) -> &[T]
     &items[start..start + PAGE_WORDS]
 }
 
-// Puts the words of these pages, one page after the other, in place of the words that are there.
+/// Puts the words of these pages, one page after the other, in place of the words that are there.
 #[tactic(auto, unfolding(crate::specs::Pages::words_of), using(crate::proofs::Rules::item_runs))]
 pub(crate) fn put_words(words: &mut [u16], pages: &[Rc<Page>])
     requires { length (words_of pages.now) ≡ length words.old }
@@ -36,8 +36,8 @@ pub(crate) fn put_words(words: &mut [u16], pages: &[Rc<Page>])
     }
 }
 
-// Puts the last stamps of these pages, one page after the other, in place of the stamps that are
-// there.
+/// Puts the last stamps of these pages, one page after the other, in place of the stamps that are
+/// there.
 #[tactic(auto, unfolding(crate::specs::Pages::stamps_of), using(crate::proofs::Rules::item_runs))]
 pub(crate) fn put_stamps(stamps: &mut [LastStamp], pages: &[Rc<Page>])
     requires { length (stamps_of pages.now) ≡ length stamps.old }
@@ -49,7 +49,7 @@ pub(crate) fn put_stamps(stamps: &mut [LastStamp], pages: &[Rc<Page>])
     }
 }
 
-// The words of a page.
+/// The words of a page.
 #[inline(always)]
 pub(crate) fn words_in(page: &Rc<Page>) -> &[u16]
     ensures { result.now ≡ page_words page.now }
@@ -57,7 +57,7 @@ pub(crate) fn words_in(page: &Rc<Page>) -> &[u16]
     &page.words
 }
 
-// The last stamps of a page.
+/// The last stamps of a page.
 #[inline(always)]
 pub(crate) fn stamps_in(page: &Rc<Page>) -> &[LastStamp]
     ensures { result.now ≡ page_stamps page.now }
@@ -65,7 +65,7 @@ pub(crate) fn stamps_in(page: &Rc<Page>) -> &[LastStamp]
     &page.stamps
 }
 
-// Puts these items in place of as many from item `at` on, and returns where they end.
+/// Puts these items in place of as many from item `at` on, and returns where they end.
 fn put_at<T: Copy>(items: &mut [T], at: usize, part: &[T]) -> usize
     requires { at + length part.now ≤ length items.old }
     ensures items { items.new ≡ with_items_at at part.now items.old }
@@ -76,7 +76,7 @@ fn put_at<T: Copy>(items: &mut [T], at: usize, part: &[T]) -> usize
     end
 }
 
-// Makes each page the base of its place, and takes its mark away.
+/// Makes each page the base of its place, and takes its mark away.
 pub(crate) fn put_bases(bases: &mut Vec<Base>, written: &mut Vec<bool>, pages: &[Rc<Page>])
     requires bases { length bases.old.items ≡ length pages.now }
     requires written { length written.old.items ≡ length pages.now }
@@ -88,7 +88,7 @@ pub(crate) fn put_bases(bases: &mut Vec<Base>, written: &mut Vec<bool>, pages: &
     }
 }
 
-// Whether these are the words of these pages.
+/// Whether these are the words of these pages.
 pub(crate) fn have_words(words: &[u16], pages: &[Rc<Page>]) -> bool
     requires { length (words_of pages.now) ≡ length words.now }
     ensures { (result ≡ true) ↔ (words.now ≡ words_of pages.now) }
@@ -101,7 +101,7 @@ pub(crate) fn have_words(words: &[u16], pages: &[Rc<Page>]) -> bool
     true
 }
 
-// Whether two runs of words are the same.
+/// Whether two runs of words are the same.
 pub(crate) fn are_same_words(some: &[u16], others: &[u16]) -> bool
     ensures { (result ≡ true) ↔ (some.now ≡ others.now) }
 {

@@ -43,21 +43,21 @@ enum Backing {
 /// So to load pages is to share their list, whose words stay where they are.
 #[derive(Drop)]
 pub struct PagedDrive {
-    // The pages last taken or loaded.
+    /// The pages last taken or loaded.
     pages: Pages,
 
     backings: Vec<Backing>,
 
-    // The words of each place that isn't shared, and what was there before of each place that is.
+    /// The words of each place that isn't shared, and what was there before of each place that is.
     own: Vec<u16>,
 
-    // How many serials were given.
+    /// How many serials were given.
     given: u64,
 
-    // Whether some place may not be shared.
+    /// Whether some place may not be shared.
     changed: bool,
 
-    // The first touch of each place.
+    /// The first touch of each place.
     touches: StoreTouches,
 }
 
@@ -131,7 +131,7 @@ impl PagedDrive {
     }
 }
 
-// `count` owners of one page of zeros, which has the first serial. Err(NoMemory) as above.
+/// `count` owners of one page of zeros, which has the first serial. Err(NoMemory) as above.
 fn zero_pages(alloc: Global, count: usize) -> Result<Vec<Rc<Page>>, NoMemory>
     ensures { IfOk result (λ pages. AreZeros count pages.items) }
 {
@@ -216,6 +216,11 @@ impl Store for PagedDrive {
         self.touches.is_touched_there(i / PAGE_WORDS, turn)
     }
 
+    #[inline(always)]
+    fn is_quiet_read(&self, i: usize, turn: u32) -> bool {
+        self.touches.is_touched_there(i / PAGE_WORDS, turn)
+    }
+
     fn forget(&mut self, turn: u32)
         ensures words { self.new.words ≡ self.old.words }
         ensures first_touches { self.new.first_touches
@@ -236,7 +241,7 @@ impl Store for PagedDrive {
 }
 
 impl PagedDrive {
-    // Makes word `i` equal to `w`, in words of the drive's own.
+    /// Makes word `i` equal to `w`, in words of the drive's own.
     #[inline(always)]
     fn replace(&mut self, i: usize, w: u16)
         requires { i < length self.old.words }
@@ -254,7 +259,7 @@ impl PagedDrive {
     }
 }
 
-// Copies the words of this place from its page into `own`, if it is shared.
+/// Copies the words of this place from its page into `own`, if it is shared.
 #[inline(always)]
 fn unshare(own: &mut Vec<u16>, place: usize, held: Backing, pages: &[Rc<Page>])
     requires shared { held ≡ Shared → place < length pages.now }
@@ -266,7 +271,7 @@ fn unshare(own: &mut Vec<u16>, place: usize, held: Backing, pages: &[Rc<Page>])
     }
 }
 
-// Puts the words of a page into this place of `own`.
+/// Puts the words of a page into this place of `own`.
 #[cold]
 #[inline(never)]
 fn put_part(own: &mut Vec<u16>, place: usize, part: &[u16])
@@ -333,7 +338,7 @@ impl SharedPaging for PagedDrive {
 }
 
 impl PagedDrive {
-    // How many places there are.
+    /// How many places there are.
     fn count(&self) -> usize
         ensures bases { result ≡ length self.now.bases }
         ensures words { result * 256 ≡ length self.now.words }
@@ -343,8 +348,8 @@ impl PagedDrive {
         self.backings.len()
     }
 
-    // The list of the pages, if each place is read from it; None too if it has as many owners as
-    // can be counted.
+    /// The list of the pages, if each place is read from it; None too if it has as many owners as
+    /// can be counted.
     fn kept(&self) -> Option<Pages>
         ensures kept { IfSome result (λ pages. self.now ≡ drive_from_pages pages.value.items
             self.now.given self.now.first_touches) }
@@ -359,9 +364,9 @@ impl PagedDrive {
         }
     }
 
-    // The places as pages, and how many serials are given then.
-    //
-    // Err(NoMemory) if memory was refused.
+    /// The places as pages, and how many serials are given then.
+    ///
+    /// Err(NoMemory) if memory was refused.
     fn listed(&self, alloc: Global) -> Result<(Vec<Rc<Page>>, u64), NoMemory>
         ensures { IfOk result (λ taken. AreTaken taken.0.items taken.1 self.now.words self.now.bases
             self.now.given) }
@@ -376,9 +381,9 @@ impl PagedDrive {
         Ok((list, given))
     }
 
-    // A place as a page: its own if it is shared, else a new one.
-    //
-    // Err(NoMemory) if memory was refused.
+    /// A place as a page: its own if it is shared, else a new one.
+    ///
+    /// Err(NoMemory) if memory was refused.
     fn page_of(&self, alloc: Global, place: usize, given: u64) -> Result<Rc<Page>, NoMemory>
         requires { place < length self.now.bases }
         ensures { IfOk result (λ page. IsPageOf page (piece place self.now.words) [] (serial_there
@@ -392,7 +397,7 @@ impl PagedDrive {
         new_page(alloc, serial_for(held, given), part(&self.own, place), &[])
     }
 
-    // The words of this place.
+    /// The words of this place.
     fn words_at(&self, place: usize) -> &[u16]
         requires { place < length self.now.bases }
         ensures { result.now ≡ piece place self.now.words }
@@ -403,7 +408,7 @@ impl PagedDrive {
         part(&self.own, place)
     }
 
-    // How many serials are given after this place, with `given` serials given before it.
+    /// How many serials are given after this place, with `given` serials given before it.
     fn given_past(&self, place: usize, given: u64) -> u64
         requires { place < length self.now.bases }
         ensures { result ≡ given_there (slice_index_or self.now.bases place None) given }
@@ -414,7 +419,7 @@ impl PagedDrive {
         }
     }
 
-    // Reads each place from this list from now on.
+    /// Reads each place from this list from now on.
     fn renew(&mut self, pages: Pages, given: u64)
         requires words { length (words_of pages.value.items) ≡ length self.old.words }
         requires stamps { stamps_of pages.value.items ≡ [] }
@@ -427,7 +432,7 @@ impl PagedDrive {
     }
 }
 
-// The words of this place.
+/// The words of this place.
 fn part(words: &[u16], place: usize) -> &[u16]
     requires { place * 256 + 256 ≤ length words.now }
     ensures { result.now ≡ piece place words.now }
@@ -436,7 +441,7 @@ fn part(words: &[u16], place: usize) -> &[u16]
     &words[start..start + PAGE_WORDS]
 }
 
-// Makes each place shared, if some may not be.
+/// Makes each place shared, if some may not be.
 fn share_all(backings: &mut Vec<Backing>, changed: bool)
     requires { changed ≡ false → backings.old.items ≡ replicate (length backings.old.items) Shared }
     ensures { backings.new.items ≡ replicate (length backings.old.items) Shared }
@@ -446,7 +451,7 @@ fn share_all(backings: &mut Vec<Backing>, changed: bool)
     }
 }
 
-// The serial of the page that is made of a place that isn't shared.
+/// The serial of the page that is made of a place that isn't shared.
 fn serial_for(held: Backing, given: u64) -> u64
     ensures { result ≡ serial_there (base_from held None) given }
 {
@@ -456,14 +461,14 @@ fn serial_for(held: Backing, given: u64) -> u64
     }
 }
 
-// The serial that is given next, after `given` serials.
+/// The serial that is given next, after `given` serials.
 fn next_serial(given: u64) -> u64
     ensures { result ≡ next_serial given }
 {
     if given < u64::MAX { given + 1 } else { 0 }
 }
 
-// How many are given then.
+/// How many are given then.
 fn next_given(given: u64) -> u64
     ensures { result ≡ next_given given }
 {
@@ -471,7 +476,7 @@ fn next_given(given: u64) -> u64
 }
 
 impl PagedDrive {
-    // Makes the words equal to those of these pages, in words of the drive's own.
+    /// Makes the words equal to those of these pages, in words of the drive's own.
     #[cold]
     fn copy_all(&mut self, pages: &[Rc<Page>])
         requires words { length (words_of pages.now) ≡ length self.old.words }
@@ -485,7 +490,7 @@ impl PagedDrive {
     }
 }
 
-// Copies the words and the serials of these pages.
+/// Copies the words and the serials of these pages.
 fn copy_each(own: &mut Vec<u16>, backings: &mut Vec<Backing>, pages: &[Rc<Page>])
     requires own { length own.old.items ≡ length pages.now * 256 }
     requires backings { length backings.old.items ≡ length pages.now }

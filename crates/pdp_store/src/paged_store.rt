@@ -31,17 +31,17 @@ use std::rc::Rc;
 pub struct Paged {
     words: Vec<u16>,
 
-    // As many as the words; or empty, in a store without stamps.
+    /// As many as the words; or empty, in a store without stamps.
     stamps: Vec<LastStamp>,
 
-    // The base of each place, which counts only if the place isn't marked as written since.
+    /// The base of each place, which counts only if the place isn't marked as written since.
     bases: Vec<Base>,
     written: Vec<bool>,
 
-    // How many serials were given.
+    /// How many serials were given.
     given: u64,
 
-    // The first touch of each place.
+    /// The first touch of each place.
     touches: StoreTouches,
 }
 
@@ -91,9 +91,9 @@ impl Paged {
     }
 }
 
-// The stamps of a number of words that weren't written yet; none if not `stamped`.
-//
-// Err(NoMemory) if memory was refused.
+/// The stamps of a number of words that weren't written yet; none if not `stamped`.
+///
+/// Err(NoMemory) if memory was refused.
 fn no_stamps(alloc: Global, len: usize, stamped: bool) -> Result<Vec<LastStamp>, NoMemory>
     ensures { IfOk result (λ stamps. stamps.items ≡ (if stamped then replicate len None else [])) }
 {
@@ -104,9 +104,9 @@ fn no_stamps(alloc: Global, len: usize, stamped: bool) -> Result<Vec<LastStamp>,
     }
 }
 
-// So many bases, each to be marked, since there is no page of it.
-//
-// Err(NoMemory) if memory was refused.
+/// So many bases, each to be marked, since there is no page of it.
+///
+/// Err(NoMemory) if memory was refused.
 fn no_bases(alloc: Global, places: usize) -> Result<Vec<Base>, NoMemory>
     ensures { IfOk result (λ bases. length bases.items ≡ places) }
 {
@@ -117,7 +117,7 @@ fn no_bases(alloc: Global, places: usize) -> Result<Vec<Base>, NoMemory>
     Ok(bases)
 }
 
-// Makes the last stamp of word `i`, if there are stamps, equal to `last`.
+/// Makes the last stamp of word `i`, if there are stamps, equal to `last`.
 #[inline(always)]
 fn put_last(stamps: &mut Vec<LastStamp>, i: usize, last: LastStamp)
     ensures { stamps.new.items ≡ slice_set stamps.old.items i last }
@@ -128,7 +128,7 @@ fn put_last(stamps: &mut Vec<LastStamp>, i: usize, last: LastStamp)
 }
 
 impl Paged {
-    // Makes word `i` equal to `w`, and its last stamp, if the store has stamps, equal to `last`.
+    /// Makes word `i` equal to `w`, and its last stamp, if the store has stamps, equal to `last`.
     #[inline(always)]
     fn replace(&mut self, i: usize, w: u16, last: LastStamp)
         requires { i < length self.old.words }
@@ -214,6 +214,11 @@ impl Store for Paged {
         self.touches.is_touched(i / PAGE_WORDS, turn)
     }
 
+    #[inline(always)]
+    fn is_quiet_read(&self, i: usize, turn: u32) -> bool {
+        self.touches.is_touched(i / PAGE_WORDS, turn)
+    }
+
     fn forget(&mut self, turn: u32)
         ensures words { self.new.words ≡ self.old.words }
         ensures stamps { self.new.stamps ≡ self.old.stamps }
@@ -234,21 +239,21 @@ impl Store for Paged {
     }
 }
 
-// The serial that is given next, after `given` serials.
+/// The serial that is given next, after `given` serials.
 fn next_serial(given: u64) -> u64
     ensures { result ≡ next_serial given }
 {
     given.checked_add(1).unwrap_or(0)
 }
 
-// How many serials are given then.
+/// How many serials are given then.
 fn next_given(given: u64) -> u64
     ensures { result ≡ next_given given }
 {
     given.saturating_add(1)
 }
 
-// Pages as they were taken, and how many serials are given with theirs.
+/// Pages as they were taken, and how many serials are given with theirs.
 #[derive(Drop)]
 struct Taken {
     pages: Vec<Rc<Page>>,
@@ -256,10 +261,10 @@ struct Taken {
 }
 
 impl Paged {
-    // The page of this place, with `given` serials given before it: its base, or a new page if it
-    // has none.
-    //
-    // Err(NoMemory) if memory was refused.
+    /// The page of this place, with `given` serials given before it: its base, or a new page if it
+    /// has none.
+    ///
+    /// Err(NoMemory) if memory was refused.
     fn page_at(&self, alloc: Global, place: usize, given: u64) -> Result<Rc<Page>, NoMemory>
         requires { place * 256 < length self.now.words }
         ensures { IfOk result (λ page. IsPageOf page (piece place self.now.words)
@@ -275,8 +280,8 @@ impl Paged {
         }
     }
 
-    // How many serials are given with that of the page of this place, with `given` serials given
-    // before it.
+    /// How many serials are given with that of the page of this place, with `given` serials given
+    /// before it.
     fn given_with(&self, place: usize, given: u64) -> u64
         requires { place * 256 < length self.now.words }
         ensures { result ≡ given_there (slice_index_or self.now.bases place None) given }
@@ -288,9 +293,9 @@ impl Paged {
         }
     }
 
-    // The page of every place, while the store stays as it is.
-    //
-    // Err(NoMemory) if memory was refused.
+    /// The page of every place, while the store stays as it is.
+    ///
+    /// Err(NoMemory) if memory was refused.
     fn pages(&self, alloc: Global) -> Result<Taken, NoMemory>
         ensures { IfOk result (λ taken. AreAllTaken taken.pages.items taken.given self.now) }
     {

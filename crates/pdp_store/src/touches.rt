@@ -11,7 +11,7 @@ use pdp_word::NoMemory;
 use std::alloc::Global;
 use std::marker::Model;
 
-// The first touch of a page that was not touched: no turn has this number.
+/// The first touch of a page that was not touched: no turn has this number.
 const NEVER: u32 = u32::MAX;
 
 /// The first touch of each page of a store, 4 bytes a page.
@@ -132,14 +132,14 @@ impl StoreTouches {
     }
 }
 
-// Returns the first touch of a page if it is before turn `turn`, otherwise the one over it.
+/// Returns the first touch of a page if it is before turn `turn`, otherwise the one over it.
 fn touch_over(turn: u32, under: u32, over: u32) -> u32
     ensures { result ≡ touch_over turn under over }
 {
     if under < turn { under } else { over }
 }
 
-// Returns a first touch if it is before turn `turn`, otherwise the one of an untouched page.
+/// Returns a first touch if it is before turn `turn`, otherwise the one of an untouched page.
 fn kept_before(turn: u32, first: u32) -> u32
     ensures { result ≡ first_before turn first }
 {

@@ -13,8 +13,8 @@
 //! - A read gives the tape's next byte, and error past the tape's end
 //!   (`a_tape_is_read_to_its_end`).
 //!
-//! The tape itself, the addresses, how a byte is written to a register, when an operation
-//! completes, and which request is served are left to pdp_unibus.
+//! The addresses, how a byte is written to a register and which request is served are left to
+//! pdp_io_page, the tape itself and when an operation completes to pdp_unibus.
 #![tactic(auto)]
 
 mod bits;

@@ -131,15 +131,15 @@ impl Reader {
         self.request = false;
     }
 
-    // Whether its condition holds: enable, and one of error and done.
+    /// Whether its condition holds: enable, and one of error and done.
     fn wants_interrupt(&self) -> bool
         ensures { result ≡ reader_wants_interrupt self.now }
     {
         (self.error || self.done) && self.enable
     }
 
-    // Sets the three flags at once. A request appears if the condition didn't hold before and holds
-    // after; it ends if the condition doesn't hold after.
+    /// Sets the three flags at once. A request appears if the condition didn't hold before and
+    /// holds after; it ends if the condition doesn't hold after.
     fn change(&mut self, error: bool, done: bool, enable: bool)
         ensures { self.new ≡ reader_with error done enable self.old }
     {
@@ -153,8 +153,8 @@ impl Reader {
         };
     }
 
-    // Go, if nothing is under way: with error set it requests if the write sets enable, else
-    // it begins to read.
+    /// Go, if nothing is under way: with error set it requests if the write sets enable, else
+    /// it begins to read.
     fn go(&mut self, enable: bool, turn: u32, delay: u32)
         ensures { self.new ≡ reader_after_go enable turn delay self.old }
     {

@@ -2,7 +2,8 @@
 -- look at one.
 use Rattle.std.proofs.Common.{◌≡◌, ◌≢◌, ◌∙◌, ℕ, suc, zero, ◌+◌, ◌<◌, Bool, true, false, List, [], ◌∷◌, length, take, get_or, refl, sym, subst, ap, ap₂, add-one, arith}
 use Rattle.pdp_device.specs.Operation.{is_due, is_under_way}
-use Rattle.pdp_unibus.specs.Handbook.Beginning.{Progress, after_event, after_events, at_start, before_disk, after_beginning, clock_ticked, disk_done, disk_due, in_turn, is_tick, printer_done, printer_due, punch_done, punch_due, reader_done, reader_due, tick_due, where_due}
+use Rattle.pdp_unibus.specs.Handbook.Beginning.{Progress, after_event, after_events, at_start, before_disk, after_beginning, clock_ticked, disk_done, disk_due, in_turn, printer_done, printer_due, punch_done, punch_due, reader_done, reader_due, tick_due, where_due}
+use Rattle.pdp_io_page.specs.Handbook.Delays.{is_tick}
 use Rattle.pdp_store.specs.CycleLogs.{KeptCycles}
 use Rattle.pdp_store.specs.declared.part.Part.{Part}
 use Rattle.pdp_rk11.proofs.Readiness.{completed_idle}
@@ -10,7 +11,7 @@ use Rattle.pdp_unibus.specs.Handbook.BusWorld.{BusWorld, disk_world_of, is_disk_
 use Rattle.pdp_rk11.proofs.FirstTouches.{not_under_way}
 use Rattle.pdp_unibus.proofs.AccessNotes.{AccessNotes, with_notes}
 use Rattle.pdp_unibus.specs.Page.{bus_with_words}
-use Rattle.pdp_unibus.specs.declared.io_page.IoPage.{IoPage}
+use Rattle.pdp_io_page.specs.declared.io_page.IoPage.{IoPage}
 use Rattle.pdp_unibus.specs.declared.event.Event.{Event}
 use Rattle.pdp_unibus.specs.declared.event.Event.TheVariants.{Tick, PrinterDone, ReaderDone, PunchDone, DiskDone}
 

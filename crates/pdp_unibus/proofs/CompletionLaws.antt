@@ -9,17 +9,18 @@ use Rattle.pdp_rk11.specs.declared.register.RkRegister.TheVariants as rk
 use Rattle.pdp_tape.specs.Reader.{reader_completed}
 use Rattle.pdp_unibus.proofs.Beginnings.{dues, dues_are_quiet, before_is_settled, event_is_quiet, events_are_settled, printer_is_quiet, reader_is_quiet, tick_is_quiet, turn_left}
 use Rattle.pdp_unibus.proofs.Frame.{event_leaves, use_leaves}
-use Rattle.pdp_unibus.specs.Handbook.Beginning.{Progress, after_event, after_events, at_start, before_disk, after_beginning, clock_ticked, disk_done, in_turn, is_tick, printer_done, printer_due, punch_done, punch_due, reader_done, reader_due, tick_due, where_due}
+use Rattle.pdp_unibus.specs.Handbook.Beginning.{Progress, after_event, after_events, at_start, before_disk, after_beginning, clock_ticked, disk_done, in_turn, printer_done, printer_due, punch_done, punch_due, reader_done, reader_due, tick_due, where_due}
+use Rattle.pdp_io_page.specs.Handbook.Delays.{is_tick}
 use Rattle.pdp_unibus.specs.Handbook.BusWorld.{BusWorld, disk_world_of}
 use Rattle.pdp_unibus.specs.ByteLaws.{PrintingEndsWhenDue, PunchingEndsWhenDue, DiskEndsWhenDue, DiskOutlivesUses, PrintingOutlivesUses, PunchingOutlivesUses, ReadingEndsWhenDue, ReadingOutlivesUses, Without, left_at}
 use Rattle.pdp_unibus.specs.Handbook.Tape.{next_byte}
-use Rattle.pdp_unibus.specs.declared.io_page.IoPage.{IoPage}
-use Rattle.pdp_unibus.specs.Laws.{RegisterUse, Reading, Writing, io_page_after_use, io_page_after_uses}
-use Rattle.pdp_unibus.specs.Handbook.Register.{after_read, after_write}
+use Rattle.pdp_io_page.specs.declared.io_page.IoPage.{IoPage}
+use Rattle.pdp_io_page.specs.Laws.{RegisterUse, Reading, Writing, io_page_after_use, io_page_after_uses}
+use Rattle.pdp_io_page.specs.Handbook.Register.{after_read, after_write}
 use Rattle.pdp_console.specs.declared.kl.KlRegister.TheVariants.{KeyboardBuffer, PrinterBuffer}
 use Rattle.pdp_tape.specs.declared.pc11.Pc11Register.TheVariants.{ReaderStatus, ReaderBuffer, PunchBuffer}
-use Rattle.pdp_unibus.specs.declared.register.Register.TheVariants as register
-use Rattle.pdp_unibus.specs.declared.register.Register.TheVariants.{Console, PaperTape}
+use Rattle.pdp_io_page.specs.declared.register.Register.TheVariants as register
+use Rattle.pdp_io_page.specs.declared.register.Register.TheVariants.{Console, PaperTape}
 use Rattle.pdp_unibus.specs.declared.event.Event.{Event}
 use Rattle.pdp_unibus.specs.declared.event.Event.TheVariants.{Key, PrinterDone, ReaderDone, PunchDone, DiskDone}
 

@@ -2,7 +2,7 @@
 use Rattle.std.proofs.Common.{◌≡◌, ℕ, Option, None, Some, length, refl}
 use Rattle.pdp_unibus.specs.Handbook.BusWorld.{BusWorld, with_io_page}
 use Rattle.pdp_unibus.specs.Handbook.Cycle.{device_slave, read_from, write_to, write_byte_to, value_at, told_at, left_by_read, left_by_write, left_by_byte, telling, told_read, told_write, told_byte_write, value_told, written_told}
-use Rattle.pdp_unibus.specs.declared.register.Register.{Register}
+use Rattle.pdp_io_page.specs.declared.register.Register.{Register}
 
 pub device_read : (address : ℕ) (r : Option Register) (w : BusWorld)
     → read_from address (device_slave r) w ≡ record {

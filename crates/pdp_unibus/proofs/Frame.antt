@@ -3,12 +3,12 @@
 use Rattle.std.proofs.Common.{◌≡◌, ◌≢◌, Some, refl}
 use Rattle.pdp_unibus.specs.Handbook.Beginning.{Progress, after_event}
 use Rattle.pdp_unibus.specs.Frame.{Owner as owner, EventsLeaveOthers, LeavesOthers, UsesLeaveOthers, owner_met, owner_used}
-use Rattle.pdp_unibus.specs.Laws.{RegisterUse, Reading, Writing, io_page_after_use}
-use Rattle.pdp_unibus.specs.Handbook.Register.{after_read, after_write}
-use Rattle.pdp_unibus.specs.declared.io_page.IoPage.{IoPage}
+use Rattle.pdp_io_page.specs.Laws.{RegisterUse, Reading, Writing, io_page_after_use}
+use Rattle.pdp_io_page.specs.Handbook.Register.{after_read, after_write}
+use Rattle.pdp_io_page.specs.declared.io_page.IoPage.{IoPage}
 use Rattle.pdp_unibus.specs.declared.event.Event.{Event}
 use Rattle.pdp_unibus.specs.declared.event.Event.TheVariants as event
-use Rattle.pdp_unibus.specs.declared.register.Register.TheVariants as register
+use Rattle.pdp_io_page.specs.declared.register.Register.TheVariants as register
 
 console_left : (u : RegisterUse) (b : IoPage) → owner_used u ≢ Some owner.Console → (io_page_after_use u b).console ≡ b.console
 unfolding after_read after_write

@@ -4,10 +4,11 @@ use Rattle.pdp_console.proofs.KeyLaws.{others_leave_the_key, reads_leave_done_cl
 use Rattle.pdp_console.specs.declared.kl.KlRegister.TheVariants.{KeyboardBuffer}
 use Rattle.pdp_unibus.specs.Handbook.Beginning.{at_start, after_key}
 use Rattle.pdp_word.specs.Bits.{bit_of}
-use Rattle.pdp_unibus.specs.Laws.{KeysAreReadOnce, KeysWaitUntilRead, NeverReading, RegisterUse, Reading, Writing, io_page_after_use, io_page_after_uses}
-use Rattle.pdp_unibus.specs.Handbook.Register.{after_read, after_write, value_in}
-use Rattle.pdp_unibus.specs.declared.io_page.IoPage.{IoPage}
-use Rattle.pdp_unibus.specs.declared.register.Register.TheVariants.{Console}
+use Rattle.pdp_unibus.specs.KeyLaws.{KeysAreReadOnce, KeysWaitUntilRead, NeverReading}
+use Rattle.pdp_io_page.specs.Laws.{RegisterUse, Reading, Writing, io_page_after_use, io_page_after_uses}
+use Rattle.pdp_io_page.specs.Handbook.Register.{after_read, after_write, value_in}
+use Rattle.pdp_io_page.specs.declared.io_page.IoPage.{IoPage}
+use Rattle.pdp_io_page.specs.declared.register.Register.TheVariants.{Console}
 
 -- no register sets done
 stays_clear : (u : RegisterUse) (b : IoPage) → b.console.keyboard.ready_enable.ready ≡ false → (io_page_after_use u b).console.keyboard.ready_enable.ready ≡ false

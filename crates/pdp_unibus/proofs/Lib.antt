@@ -6,12 +6,10 @@ pub mod Devices
 pub mod Frame
 pub mod KeyLaws
 pub mod OutputLaws
-pub mod RequestLaws
 pub mod RuleLaws
-pub mod StatusLaws
 pub mod TapeLaws
 pub mod Tapes
-pub mod Watching
+pub mod QuietBeginnings
 pub mod Directs
 pub mod Kept
 pub mod Pairs

@@ -5,9 +5,10 @@ use Rattle.pdp_device.specs.Transmitter.{byte_out, transmitter_completed}
 use Rattle.pdp_device.specs.declared.operation.Operation.TheVariants.{Idle}
 use Rattle.pdp_device.specs.declared.transmitter.Transmitter.{Transmitter}
 use Rattle.pdp_unibus.proofs.Frame.{event_leaves}
-use Rattle.pdp_unibus.specs.Handbook.Beginning.{Progress, after_event, after_events, at_start, before_disk, after_beginning, clock_ticked, disk_done, disk_due, in_turn, is_tick, printer_done, printer_due, punch_done, punch_due, reader_done, reader_due, tick_due, where_due}
+use Rattle.pdp_unibus.specs.Handbook.Beginning.{Progress, after_event, after_events, at_start, before_disk, after_beginning, clock_ticked, disk_done, disk_due, in_turn, printer_done, printer_due, punch_done, punch_due, reader_done, reader_due, tick_due, where_due}
+use Rattle.pdp_io_page.specs.Handbook.Delays.{is_tick}
 use Rattle.pdp_unibus.specs.ByteLaws.{BytesArePrintedAsOperationsEnd, BytesArePunchedAsOperationsEnd, came_out}
-use Rattle.pdp_unibus.specs.declared.io_page.IoPage.{IoPage}
+use Rattle.pdp_io_page.specs.declared.io_page.IoPage.{IoPage}
 use Rattle.pdp_unibus.specs.declared.event.Event.{Event}
 use Rattle.pdp_unibus.specs.declared.event.Event.TheVariants.{Key, Tick, PrinterDone, ReaderDone, PunchDone, DiskDone}
 

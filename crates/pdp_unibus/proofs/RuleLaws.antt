@@ -10,6 +10,7 @@ use Rattle.pdp_device.specs.declared.ready_enable.ReadyEnable.{ReadyEnable}
 use Rattle.pdp_device.specs.declared.transmitter.Transmitter.{Transmitter}
 use Rattle.pdp_rk11.proofs.Readiness.{completed_ready_enable, completed_idle}
 use Rattle.pdp_rk11.specs.Handbook.Completion.{rk_completed as completion}
+use Rattle.pdp_rk11.specs.declared.rk.ControlWrite.{ControlWrite}
 use Rattle.pdp_rk11.specs.Handbook.Rk.{rk_commanded, function_of, gone_with, rk_written}
 use Rattle.pdp_rk11.specs.declared.function.Function.{Function}
 use Rattle.pdp_rk11.specs.declared.function.Function.TheVariants.{ControlReset, Write, Read, WriteCheck, Seek, ReadCheck, DriveReset, WriteLock}
@@ -22,14 +23,14 @@ use Rattle.pdp_unibus.specs.Handbook.BusWorld.{disk_world_of}
 use Rattle.pdp_word.specs.Bits.{field}
 use Rattle.pdp_word.specs.Mask.{is_set}
 use Rattle.pdp_rk11.specs.Handbook.Bits.{rkcs_enable, rkcs_go}
-use Rattle.pdp_unibus.specs.Laws.{RegisterUse, Reading, Writing, io_page_after_use}
-use Rattle.pdp_unibus.specs.Handbook.Register.{after_read, after_write}
+use Rattle.pdp_io_page.specs.Laws.{RegisterUse, Reading, Writing, io_page_after_use}
+use Rattle.pdp_io_page.specs.Handbook.Register.{after_read, after_write}
 use Rattle.pdp_unibus.specs.RuleLaws.{GoesByTheRule, IsSound, RequestsGoByTheRule, disk_ready_enable, keyboard_ready_enable, printer_ready_enable, punch_ready_enable}
-use Rattle.pdp_unibus.specs.declared.io_page.IoPage.{IoPage}
+use Rattle.pdp_io_page.specs.declared.io_page.IoPage.{IoPage}
 use Rattle.pdp_unibus.specs.declared.event.Event.{Event}
 use Rattle.pdp_unibus.specs.declared.event.Event.TheVariants.{Key, PrinterDone, ReaderDone, PunchDone, DiskDone}
-use Rattle.pdp_unibus.specs.declared.register.Register.TheVariants as register
-use Rattle.pdp_unibus.specs.declared.register.Register.TheVariants.{Console, PaperTape}
+use Rattle.pdp_io_page.specs.declared.register.Register.TheVariants as register
+use Rattle.pdp_io_page.specs.declared.register.Register.TheVariants.{Console, PaperTape}
 
 -- a ready/enable pair that isn't changed
 same_request : (calls request : Bool) → (request ≡ true → calls ≡ true) → request ≡ request_after calls calls request
@@ -123,25 +124,25 @@ pub punch_goes : RequestsGoByTheRule punch_ready_enable
 punch_goes = record { uses = punch_uses; events = punch_events; power = λ delays asks. absurd (cc asks) }
 
 -- go with a function, while ready
-gone : (function : Function) (word turn delay : ℕ) (disk : Rk) → GoesByTheRule disk.ready_enable (gone_with function word turn delay disk).ready_enable
-gone ControlReset word turn delay disk = changed true false disk.ready_enable
-gone Write word turn delay disk = changed false (is_set rkcs_enable word) disk.ready_enable
-gone Read word turn delay disk = changed false (is_set rkcs_enable word) disk.ready_enable
-gone WriteCheck word turn delay disk = changed false (is_set rkcs_enable word) disk.ready_enable
-gone Seek word turn delay disk = changed false (is_set rkcs_enable word) disk.ready_enable
-gone ReadCheck word turn delay disk = changed false (is_set rkcs_enable word) disk.ready_enable
-gone DriveReset word turn delay disk = changed false (is_set rkcs_enable word) disk.ready_enable
-gone WriteLock word turn delay disk = changed false (is_set rkcs_enable word) disk.ready_enable
+gone : (function : Function) (write : ControlWrite) (disk : Rk) → GoesByTheRule disk.ready_enable (gone_with function write disk).ready_enable
+gone ControlReset write disk = changed true false disk.ready_enable
+gone Write write disk = changed false (is_set rkcs_enable write.word) disk.ready_enable
+gone Read write disk = changed false (is_set rkcs_enable write.word) disk.ready_enable
+gone WriteCheck write disk = changed false (is_set rkcs_enable write.word) disk.ready_enable
+gone Seek write disk = changed false (is_set rkcs_enable write.word) disk.ready_enable
+gone ReadCheck write disk = changed false (is_set rkcs_enable write.word) disk.ready_enable
+gone DriveReset write disk = changed false (is_set rkcs_enable write.word) disk.ready_enable
+gone WriteLock write disk = changed false (is_set rkcs_enable write.word) disk.ready_enable
 
-with_go : (goes : Bool) (word turn delay : ℕ) (disk : Rk) → is_set rkcs_go word ≡ goes
-    → GoesByTheRule disk.ready_enable (rk_commanded word turn delay disk).ready_enable
-with_go true word turn delay disk is = rw is (gone (function_of (field 1 3 word)) word turn delay disk)
-with_go false word turn delay disk is = rw is (changed disk.ready_enable.ready (is_set rkcs_enable word) disk.ready_enable)
+with_go : (goes : Bool) (write : ControlWrite) (disk : Rk) → is_set rkcs_go write.word ≡ goes
+    → GoesByTheRule disk.ready_enable (rk_commanded write disk).ready_enable
+with_go true write disk is = rw is (gone (function_of (field 1 3 write.word)) write disk)
+with_go false write disk is = rw is (changed disk.ready_enable.ready (is_set rkcs_enable write.word) disk.ready_enable)
 
-controlled : (ready : Bool) (word turn delay : ℕ) (disk : Rk)
-    → GoesByTheRule disk.ready_enable (if ready then rk_commanded word turn delay disk else record disk { ready_enable = enable_written word disk.ready_enable }).ready_enable
-controlled true word turn delay disk = with_go (is_set rkcs_go word) word turn delay disk refl
-controlled false word turn delay disk = changed disk.ready_enable.ready (is_set rkcs_enable word) disk.ready_enable
+controlled : (ready : Bool) (write : ControlWrite) (disk : Rk)
+    → GoesByTheRule disk.ready_enable (if ready then rk_commanded write disk else record disk { ready_enable = enable_written write.word disk.ready_enable }).ready_enable
+controlled true write disk = with_go (is_set rkcs_go write.word) write disk refl
+controlled false write disk = changed disk.ready_enable.ready (is_set rkcs_enable write.word) disk.ready_enable
 
 -- a register that is written while ready alone, and leaves the ready/enable pair
 written_while : (ready : Bool) (disk after : Rk) → after.ready_enable ≡ disk.ready_enable → IsSound disk.ready_enable
@@ -154,7 +155,7 @@ unfolding after_read after_write rk_written
 disk_uses (Reading (register.Disk r)) b sound = unchanged (disk_ready_enable b) sound
 disk_uses (Writing (register.Disk rk.DriveStatus) word turn) b sound = unchanged (disk_ready_enable b) sound
 disk_uses (Writing (register.Disk rk.Error) word turn) b sound = unchanged (disk_ready_enable b) sound
-disk_uses (Writing (register.Disk rk.Control) word turn) b sound = controlled b.disk.ready_enable.ready word turn b.delays.disk b.disk
+disk_uses (Writing (register.Disk rk.Control) word turn) b sound = controlled b.disk.ready_enable.ready (record { word = word; turn = turn; delay = b.delays.disk }) b.disk
 disk_uses (Writing (register.Disk r) word turn) b sound = written_while b.disk.ready_enable.ready b.disk _ refl sound
 disk_uses u b sound =
     left _ _ (ap (λ d. d.ready_enable) ((use_leaves u b).disk (λ is. cc is))) sound

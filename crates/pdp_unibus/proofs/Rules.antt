@@ -3,19 +3,15 @@
 use Rattle.std.proofs.lemmas.List.{length-map}
 use Rattle.pdp_kt11.specs.Handbook.Kt.{kt_fetched}
 use Rattle.pdp_unibus.proofs.Directs.{fetched_status, written_both}
-use Rattle.pdp_unibus.proofs.RequestLaws.{first_of_all, without_requests_none_is_chosen}
 use Rattle.pdp_unibus.proofs.SavedDrives.{none_loaded, size_at, one_loaded, all_loaded}
 use Rattle.pdp_unibus.proofs.SavedDrives.{count_at, count_one, count_past, count_there}
 use Rattle.pdp_unibus.proofs.SavedDrives.{none_counted, seen, put_one, same_for_one}
-use Rattle.pdp_unibus.proofs.Watching.{begun_quietly}
+use Rattle.pdp_unibus.proofs.QuietBeginnings.{begun_quietly}
 use Rattle.pdp_unibus.specs.Calm.{IsCalm}
-use Rattle.pdp_unibus.specs.Handbook.Source.{requests}
+use Rattle.pdp_io_page.specs.Handbook.Source.{requests}
 
 -- for goals on the bus after a fetch, after a pair of writes and as a calm turn begins
 pub ruleset bus_steps = (fetched_status, written_both, begun_quietly)
-
--- for goals on the source that is chosen
-pub ruleset choices = (first_of_all, without_requests_none_is_chosen)
 
 -- for goals on drives that are loaded one after the other
 pub ruleset drive_loads = (none_loaded, size_at, one_loaded, all_loaded)

@@ -3,9 +3,9 @@ use Rattle.std.proofs.Common.{◌≡◌, ℕ, zero, suc, ◌+◌, ◌<◌, List,
 use Rattle.std.specs.Option.{option_map}
 use Rattle.std.proofs.lemmas.Option.{slice_get-map}
 use Rattle.pdp_unibus.specs.Handbook.BusWorld.{BusWorld}
-use Rattle.pdp_unibus.specs.Handbook.Register.{value_in}
+use Rattle.pdp_io_page.specs.Handbook.Register.{value_in}
 use Rattle.pdp_unibus.specs.Handbook.Shown.{devices_of, shown_registers}
-use Rattle.pdp_unibus.specs.declared.register.Register.{Register}
+use Rattle.pdp_io_page.specs.declared.register.Register.{Register}
 
 -- a list of which the first elements are those of another, with one more
 one_more : {X : Type 0} (xs ys : List X) (x : X) (i : ℕ) → slice_get xs i ≡ Some x → i < length ys → take i ys ≡ take i xs

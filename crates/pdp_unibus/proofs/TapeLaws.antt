@@ -5,7 +5,8 @@ use Rattle.pdp_device.specs.declared.operation.Operation.TheVariants.{Idle}
 use Rattle.pdp_tape.specs.Reader.{read_over}
 use Rattle.pdp_tape.specs.declared.reader.Reader.{Reader}
 use Rattle.pdp_unibus.proofs.Frame.{event_leaves}
-use Rattle.pdp_unibus.specs.Handbook.Beginning.{Progress, after_event, after_events, at_start, before_disk, after_beginning, clock_ticked, disk_done, disk_due, in_turn, is_tick, printer_done, printer_due, punch_done, punch_due, reader_done, reader_due, tick_due, where_due}
+use Rattle.pdp_unibus.specs.Handbook.Beginning.{Progress, after_event, after_events, at_start, before_disk, after_beginning, clock_ticked, disk_done, disk_due, in_turn, printer_done, printer_due, punch_done, punch_due, reader_done, reader_due, tick_due, where_due}
+use Rattle.pdp_io_page.specs.Handbook.Delays.{is_tick}
 use Rattle.pdp_unibus.specs.ByteLaws.{ReadsTakeTheNextByte, has_ended, reader_of}
 use Rattle.pdp_unibus.specs.Handbook.Tape.{next_byte, read_on}
 use Rattle.pdp_unibus.specs.declared.event.Event.{Event}

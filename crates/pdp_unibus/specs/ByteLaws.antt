@@ -10,9 +10,9 @@ use Rattle.pdp_tape.specs.Reader.{read_over}
 use Rattle.pdp_tape.specs.declared.reader.Reader.{Reader}
 use Rattle.pdp_unibus.specs.Handbook.Beginning.{after_beginning}
 use Rattle.pdp_unibus.specs.Handbook.BusWorld.{BusWorld}
-use Rattle.pdp_unibus.specs.Laws.{RegisterUse, io_page_after_uses}
+use Rattle.pdp_io_page.specs.Laws.{RegisterUse, io_page_after_uses}
 use Rattle.pdp_unibus.specs.Handbook.Tape.{next_byte, read_on}
-use Rattle.pdp_unibus.specs.declared.io_page.IoPage.{IoPage}
+use Rattle.pdp_io_page.specs.declared.io_page.IoPage.{IoPage}
 use Rattle.pdp_unibus.specs.declared.event.Event.{Event}
 use Rattle.pdp_unibus.specs.declared.event.Event.TheVariants.{DiskDone, PrinterDone, ReaderDone}
 use Rattle.pdp_unibus.specs.declared.event.Event.TheVariants.{PunchDone}

@@ -2,12 +2,12 @@
 -- No rule of the handbook is here.
 use Rattle.std.specs.Prelude.{◌≡◌, ◌≢◌, Option, Some, None}
 use Rattle.pdp_unibus.specs.Handbook.Beginning.{Progress, after_event}
-use Rattle.pdp_unibus.specs.Laws.{RegisterUse, Reading, Writing, io_page_after_use}
-use Rattle.pdp_unibus.specs.declared.io_page.IoPage.{IoPage}
+use Rattle.pdp_io_page.specs.Laws.{RegisterUse, Reading, Writing, io_page_after_use}
+use Rattle.pdp_io_page.specs.declared.io_page.IoPage.{IoPage}
 use Rattle.pdp_unibus.specs.declared.event.Event.{Event}
 use Rattle.pdp_unibus.specs.declared.event.Event.TheVariants as event
-use Rattle.pdp_unibus.specs.declared.register.Register.{Register}
-use Rattle.pdp_unibus.specs.declared.register.Register.TheVariants as register
+use Rattle.pdp_io_page.specs.declared.register.Register.{Register}
+use Rattle.pdp_io_page.specs.declared.register.Register.TheVariants as register
 
 -- what can change on the I/O page
 pub data Owner : Type 0 where

@@ -1,12 +1,7 @@
--- What the handbooks say of the bus: its registers, cycles, requests and operations.
-pub mod Bits
-pub mod Status
-pub mod Source
+-- What the handbooks say of the bus: its cycles, and the beginning of a turn.
 pub mod BusWorld
-pub mod Register
 pub mod Shown
 pub mod Cycle
-pub mod Delays
 pub mod Tape
 pub mod Beginning
 pub mod LastTurn

@@ -1,12 +1,10 @@
 pub mod Handbook
 pub mod Fetch
 pub mod SingleBytes
-pub mod Watch
 pub mod Direct
 pub mod Calm
-pub mod Laws
+pub mod KeyLaws
 pub mod Frame
-pub mod RequestLaws
 pub mod RuleLaws
 pub mod ByteLaws
 pub mod Trace
@@ -18,5 +16,3 @@ pub mod SavedDrives
 pub mod SavedTouches
 -- what attributes open, by a shorter path
 unfoldable pub use Rattle.pdp_unibus.specs.Handbook.Beginning.{after_beginning, before_disk}
-unfoldable pub use Rattle.pdp_unibus.specs.Handbook.Register.{after_read, value_in}
-unfoldable pub use Rattle.pdp_unibus.specs.Handbook.Source.{chosen_source, requests}

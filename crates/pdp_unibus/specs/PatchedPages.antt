@@ -1,4 +1,4 @@
--- A page of 256 words with one word changed, put into each saved bus that has this page alike [P].
+-- A page of 256 words with one word changed, put into each saved bus that has this page alike.
 use Rattle.std.specs.Prelude.{ℕ, ◌≡◌, ◌/◌, ◌%◌, List, [], Option, slice_index_or}
 use Rattle.std.specs.Prelude.{if◌then◌else◌, length, nat_lt, slice_set}
 use Rattle.pdp_store.specs.Parts.{words_of_drive}

@@ -4,10 +4,10 @@ use Rattle.pdp_device.specs.Request.{request_after}
 use Rattle.pdp_device.specs.ReadyEnable.{wants_interrupt}
 use Rattle.pdp_device.specs.declared.ready_enable.ReadyEnable.{ReadyEnable}
 use Rattle.pdp_unibus.specs.Handbook.Beginning.{Progress, after_event}
-use Rattle.pdp_unibus.specs.Handbook.BusWorld.{io_page_at_power_up}
-use Rattle.pdp_unibus.specs.Laws.{RegisterUse, io_page_after_use}
-use Rattle.pdp_unibus.specs.declared.io_page.IoPage.{IoPage}
-use Rattle.pdp_unibus.specs.declared.delays.Delays.{Delays}
+use Rattle.pdp_io_page.specs.Handbook.Reset.{io_page_at_power_up}
+use Rattle.pdp_io_page.specs.Laws.{RegisterUse, io_page_after_use}
+use Rattle.pdp_io_page.specs.declared.io_page.IoPage.{IoPage}
+use Rattle.pdp_io_page.specs.declared.delays.Delays.{Delays}
 use Rattle.pdp_unibus.specs.declared.event.Event.{Event}
 
 -- a ready/enable pair that requests does so on its condition

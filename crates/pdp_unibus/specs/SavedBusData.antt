@@ -1,5 +1,5 @@
 -- What is saved of a bus: all but the bytes of its tape, which no turn changes, first touches and
--- the log [P].
+-- the log.
 use Rattle.std.specs.Prelude.{ℕ, ◌≡◌, ◌<◌, List, Option, length, map, slice_set}
 use Rattle.pdp_store.specs.Parts.{core_with, drives_with, words_in}
 use Rattle.pdp_store.specs.CycleLogs.{no_log}
@@ -11,8 +11,8 @@ use Rattle.pdp_store.specs.declared.Stamp.{Stamp}
 use Rattle.pdp_store.specs.declared.part.Part.{Part}
 use Rattle.pdp_store.specs.declared.part.WordAt.{WordAt}
 use Rattle.pdp_unibus.specs.Handbook.BusWorld.{BusWorld}
-use Rattle.pdp_unibus.specs.declared.io_page.IoPage.{IoPage}
-use Rattle.pdp_unibus.specs.declared.delays.Delays.{Delays}
+use Rattle.pdp_io_page.specs.declared.io_page.IoPage.{IoPage}
+use Rattle.pdp_io_page.specs.declared.delays.Delays.{Delays}
 
 -- each field as in the bus
 pub record SavedBusData : Type 0 where

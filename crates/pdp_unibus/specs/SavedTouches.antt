@@ -1,4 +1,4 @@
--- First touches apart from a bus [P].
+-- First touches apart from a bus.
 use Rattle.std.specs.Prelude.{ℕ, ◌≡◌, List, Vec, length, map}
 use Rattle.std.specs.declared.alloc.Global.{Global}
 use Rattle.pdp_store.specs.FirstTouches.{FirstTouches}

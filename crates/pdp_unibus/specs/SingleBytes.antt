@@ -3,7 +3,7 @@
 use Rattle.std.specs.Prelude.{◌≡◌, true, false, is_some}
 use Rattle.pdp_device.specs.Operation.{is_under_way}
 use Rattle.pdp_unibus.specs.declared.beginning.Output.{Output}
-use Rattle.pdp_unibus.specs.declared.io_page.IoPage.{IoPage}
+use Rattle.pdp_io_page.specs.declared.io_page.IoPage.{IoPage}
 
 -- so it is with a board and what came out so far
 pub record IsSingle (b : IoPage) (output : Output) : Type 0 where

@@ -12,7 +12,7 @@ ghost use Rattle.pdp_unibus.specs.declared.beginning.Output.{Output};
 
 use crate::bus::Bus;
 use crate::event::Event;
-use crate::watch::Watch;
+use pdp_io_page::Watch;
 use pdp_store::Store;
 
 /// The byte that was printed on the console and the byte that was punched in the beginning of a
@@ -95,7 +95,7 @@ impl<S: Store, D: Store> Bus<S, D> {
         }
     }
 
-    // The clock ticks by itself, if it is to in this turn.
+    /// The clock ticks by itself, if it is to in this turn.
     fn take_tick(&mut self)
         ensures after { (o : Output) → progress self.new o ≡ tick_due (progress self.old o) }
         ensures single { StaysSingle self.old.io_page self.new.io_page }
@@ -107,7 +107,7 @@ impl<S: Store, D: Store> Bus<S, D> {
         }
     }
 
-    // The printer completes, if it is due.
+    /// The printer completes, if it is due.
     fn take_printer(&mut self, output: &mut Output)
         requires { IsSingle self.old.io_page output.old }
         ensures after { progress self.new output.new ≡ printer_due (progress self.old output.old) }
@@ -118,7 +118,7 @@ impl<S: Store, D: Store> Bus<S, D> {
         }
     }
 
-    // The reader completes, if it is due.
+    /// The reader completes, if it is due.
     fn take_reader(&mut self)
         ensures after { (o : Output) → progress self.new o ≡ reader_due (progress self.old o) }
         ensures single { StaysSingle self.old.io_page self.new.io_page }
@@ -128,7 +128,7 @@ impl<S: Store, D: Store> Bus<S, D> {
         }
     }
 
-    // The punch completes, if it is due.
+    /// The punch completes, if it is due.
     fn take_punch(&mut self, output: &mut Output)
         requires { IsSingle self.old.io_page output.old }
         ensures after { progress self.new output.new ≡ punch_due (progress self.old output.old) }
@@ -139,7 +139,7 @@ impl<S: Store, D: Store> Bus<S, D> {
         }
     }
 
-    // The disk completes, if it is due.
+    /// The disk completes, if it is due.
     fn take_disk(&mut self)
         ensures after { (o : Output) → progress self.new o ≡ disk_due (progress self.old o) }
         ensures single { StaysSingle self.old.io_page self.new.io_page }
@@ -149,7 +149,7 @@ impl<S: Store, D: Store> Bus<S, D> {
         }
     }
 
-    // The printer completes.
+    /// The printer completes.
     fn print(&mut self, output: &mut Output)
         requires { IsSingle self.old.io_page output.old }
         ensures after { progress self.new output.new ≡ printer_done (progress self.old output.old) }
@@ -161,7 +161,7 @@ impl<S: Store, D: Store> Bus<S, D> {
         }
     }
 
-    // The punch completes.
+    /// The punch completes.
     fn punch(&mut self, output: &mut Output)
         requires { IsSingle self.old.io_page output.old }
         ensures after { progress self.new output.new ≡ punch_done (progress self.old output.old) }
@@ -173,7 +173,7 @@ impl<S: Store, D: Store> Bus<S, D> {
         }
     }
 
-    // The disk completes: its function is done, to core and the drives.
+    /// The disk completes: its function is done, to core and the drives.
     fn complete_disk(&mut self)
         ensures after { (o : Output) → progress self.new o ≡ disk_done (progress self.old o) }
         ensures single { StaysSingle self.old.io_page self.new.io_page }
@@ -186,7 +186,7 @@ impl<S: Store, D: Store> Bus<S, D> {
         self.lines.clear();
     }
 
-    // The reader completes: if it was reading, the next byte of the tape is taken.
+    /// The reader completes: if it was reading, the next byte of the tape is taken.
     fn read_tape(&mut self)
         ensures after { (o : Output) → progress self.new o ≡ reader_done (progress self.old o) }
         ensures single { StaysSingle self.old.io_page self.new.io_page }

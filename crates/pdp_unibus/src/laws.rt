@@ -2,14 +2,7 @@ ghost use Rattle.std.specs.Prelude.{◌≡◌, ◌≤◌, Err};
 ghost use Rattle.pdp_unibus.specs.Handbook.BusWorld.{BusWorld, with_log};
 ghost use Rattle.pdp_unibus.specs.Handbook.Cycle.{Cycle, cycle};
 ghost use Rattle.pdp_unibus.specs.Frame.{EventsLeaveOthers, UsesLeaveOthers};
-ghost use Rattle.pdp_unibus.specs.Laws.{KeysAreReadOnce, KeysWaitUntilRead};
-ghost use Rattle.pdp_unibus.specs.Laws.{ReadStatusWritesBack, WrittenRegisterReadsBack};
-ghost use Rattle.pdp_unibus.specs.Laws.{WrittenStatusReadsBack};
-ghost use Rattle.pdp_unibus.specs.Laws.{StatusIsItsWord, WholeStatusReadsBack};
-ghost use Rattle.pdp_unibus.specs.RequestLaws.{NoneIsChosenWhereNoneIsAbove, RequestsAreTold};
-ghost use Rattle.pdp_unibus.specs.RequestLaws.{TheFirstIsChosen};
-ghost use Rattle.pdp_unibus.specs.RequestLaws.{OthersGoOnRequesting, ResetDropsRequests};
-ghost use Rattle.pdp_unibus.specs.RequestLaws.{ServedSourcesAreSilent};
+ghost use Rattle.pdp_unibus.specs.KeyLaws.{KeysAreReadOnce, KeysWaitUntilRead};
 ghost use Rattle.pdp_unibus.specs.RuleLaws.{RequestsGoByTheRule, disk_ready_enable};
 ghost use Rattle.pdp_unibus.specs.RuleLaws.{keyboard_ready_enable, printer_ready_enable};
 ghost use Rattle.pdp_unibus.specs.RuleLaws.{punch_ready_enable};
@@ -40,35 +33,12 @@ pub fn devices_change_alone()
     ensures events { EventsLeaveOthers }
 {}
 
-/// A law of the program status word: a word that is written to it reads back without bits 11-8, and
-/// with T as it was. What was read from it changes nothing when it is written. A whole word, as a
-/// trap loads it, sets T too.
-///
-/// DEC PDP-11/40 Processor Handbook (1972), Processor status word; bits 11-8 and T are [P].
-pub fn status_reads_back()
-    ensures word { WrittenStatusReadsBack }
-    ensures register { WrittenRegisterReadsBack }
-    ensures unchanged { ReadStatusWritesBack }
-    ensures whole { WholeStatusReadsBack }
-    ensures same { StatusIsItsWord }
-{}
-
 /// A law of the keyboard's registers: a key waits until the buffer is read, and is read once.
 ///
 /// PDP-11 Peripherals Handbook, KL11.
 pub fn keys_wait_and_are_read_once()
     ensures waiting { KeysWaitUntilRead }
     ensures once { KeysAreReadOnce }
-{}
-
-/// A law of interrupts: whichever sources request, the one that is chosen requests with a level
-/// above the priority, and no other that does goes before it, by its level or at the same level by
-/// its place. None is chosen exactly if none does.
-///
-/// PDP-11 Peripherals Handbook, Unibus; the order at one level [P].
-pub fn the_first_request_is_chosen()
-    ensures first { TheFirstIsChosen }
-    ensures none { NoneIsChosenWhereNoneIsAbove }
 {}
 
 /// A law of the one rule of requests, of the keyboard, the printer, the punch and the disk:
@@ -82,17 +52,6 @@ pub fn requests_go_by_the_rule()
     ensures printer { RequestsGoByTheRule printer_ready_enable }
     ensures punch { RequestsGoByTheRule punch_ready_enable }
     ensures disk { RequestsGoByTheRule disk_ready_enable }
-{}
-
-/// A law of requests: whether there is any is told, a source that was served doesn't request, the
-/// others go on as before, and after RESET none does.
-///
-/// PDP-11 Peripherals Handbook, Unibus; RESET [P].
-pub fn requests_go_one_by_one_or_by_reset()
-    ensures told { RequestsAreTold }
-    ensures served { ServedSourcesAreSilent }
-    ensures others { OthersGoOnRequesting }
-    ensures reset { ResetDropsRequests }
 {}
 
 /// A law of the printer and the punch: in the beginning of a turn a byte comes out exactly if

@@ -8,7 +8,7 @@ use std::marker::Model;
 #[derive(Drop)]
 pub(crate) struct Tape {
     bytes: Vec<u8>,
-    // How many of them have been read.
+    /// How many of them have been read.
     taken: usize,
 }
 

@@ -32,7 +32,7 @@ impl<S: Store, D: Store> Bus<S, D> {
     }
 }
 
-// Returns the first touch of this page of the drive of this number; `None` if it isn't there.
+/// Returns the first touch of this page of the drive of this number; `None` if it isn't there.
 #[tactic(auto, using(crate::proofs::SavedDrives::seen))]
 fn first_of<D: Store>(drives: &Vec<D>, number: u8, page: usize) -> Option<u32>
     ensures { result ≡ first_turn (slice_index_or
@@ -41,7 +41,7 @@ fn first_of<D: Store>(drives: &Vec<D>, number: u8, page: usize) -> Option<u32>
     drives.get(usize::from(number))?.first(page)
 }
 
-// Drops the first touches of this turn and of later turns on each drive.
+/// Drops the first touches of this turn and of later turns on each drive.
 #[tactic(auto, using(crate::proofs::SavedDrives::same_for_one))]
 fn forget_each<D: Store>(drives: &mut Vec<D>, turn: u32)
     ensures words { map D.words drives.new.items ≡ map D.words drives.old.items }
@@ -53,7 +53,7 @@ fn forget_each<D: Store>(drives: &mut Vec<D>, turn: u32)
     }
 }
 
-// Drops them on the drive of this number.
+/// Drops them on the drive of this number.
 #[tactic(auto, using(crate::proofs::Rules::changed_drive))]
 fn forget_one<D: Store>(drives: &mut Vec<D>, turn: u32, number: usize)
     requires { number < length drives.old.items }

@@ -39,7 +39,7 @@ pub fn write_octal6(number: u32) -> [u8; 6]
     ]
 }
 
-// The last octal digit, as text.
+/// The last octal digit, as text.
 fn octal_digit(number: u32) -> u8
     ensures { result ≡ 48 + number % 8 }
 {

@@ -6,9 +6,9 @@ use Rattle.pdp_unibus.specs.SavedBusData.{bus_with_tape}
 use Rattle.pdp_store.specs.FirstTouches.{FirstTouches, no_first_touches}
 use Rattle.pdp_unibus.specs.Handbook.BusWorld.{bus_at_power_up, with_first_touches, with_log}
 use Rattle.pdp_unibus.specs.Handbook.BusWorld.{with_stamps}
-use Rattle.pdp_unibus.specs.declared.delays.Delays.{Delays}
+use Rattle.pdp_io_page.specs.declared.delays.Delays.{Delays}
 use Rattle.pdp_unibus.specs.declared.event.Event.{Event}
-use Rattle.pdp_operand.specs.Handbook.Processor.{powered_processor}
+use Rattle.pdp_operand.specs.Handbook.Processor.{processor_at_power_up}
 use Rattle.pdp_operand.specs.Phases.World.{World, world}
 use Rattle.pdp_cpu.specs.KeptTexts.{kept_over}
 use Rattle.pdp_cpu.specs.Handbook.Turn.{beginning, one_turn, printed_in, punched_in}
@@ -65,17 +65,17 @@ abbrev pub touched_machine : MachineWithTexts → MachineWithTexts
 touched_machine m = record m { state = record m.state { world = machine_world m } }
 
 -- the world as of power-up
-abbrev pub powered_world : ℕ → List ℕ → List (Option Stamp) → List (List ℕ) → List ℕ → Delays
+abbrev pub world_at_power_up : ℕ → List ℕ → List (Option Stamp) → List (List ℕ) → List ℕ → Delays
     → World
-powered_world start words stamps drives tape delays =
-    world (powered_processor start) (bus_at_power_up words stamps drives tape delays)
+world_at_power_up start words stamps drives tape delays =
+    world (processor_at_power_up start) (bus_at_power_up words stamps drives tape delays)
 
 -- the machine as of power-up: no byte was printed or punched [7.8]
-abbrev pub powered_machine : ℕ → List ℕ → List (Option Stamp) → List (List ℕ) → List ℕ → Delays
+abbrev pub machine_at_power_up : ℕ → List ℕ → List (Option Stamp) → List (List ℕ) → List ℕ → Delays
     → MachineState
-powered_machine start words stamps drives tape delays = record {
+machine_at_power_up start words stamps drives tape delays = record {
   turn = 0;
-  world = powered_world start words stamps drives tape delays;
+  world = world_at_power_up start words stamps drives tape delays;
   text = [];
   punched = [];
 }

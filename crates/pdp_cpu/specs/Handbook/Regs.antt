@@ -1,7 +1,7 @@
 -- The registers as a person reads them: DEC PDP-11/40 Processor Handbook (1972), General registers
 -- and Processor status word.
 use Rattle.std.specs.Prelude.{[], ◌∷◌}
-use Rattle.pdp_unibus.specs.Handbook.Status.{status_word}
+use Rattle.pdp_io_page.specs.Handbook.Status.{status_word}
 use Rattle.pdp_operand.specs.Handbook.Processor.{register_of}
 use Rattle.pdp_operand.specs.declared.processor.RegisterId.TheVariants.{R0, R1, R2, R3, R4, R5}
 use Rattle.pdp_operand.specs.declared.processor.RegisterId.TheVariants.{KernelStack, ProgramCounter}

@@ -1,4 +1,4 @@
--- What a turn of a machine leaves [P].
+-- What a turn of a machine leaves.
 use Rattle.std.specs.Prelude.{ℕ, ◌≡◌, List}
 use Rattle.pdp_store.specs.FirstTouches.{first_touches_after, no_first_touches}
 use Rattle.pdp_unibus.specs.declared.event.Event.{Event}

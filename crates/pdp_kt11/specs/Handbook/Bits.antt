@@ -50,6 +50,10 @@ page_bytes = 0o20000
 abbrev pub block_bytes : ℕ
 block_bytes = 0o100
 
+-- the words of a block
+abbrev pub block_words : ℕ
+block_words = 0o40
+
 -- the blocks of a page
 abbrev pub blocks_of_page : ℕ
 blocks_of_page = 0o200
@@ -57,6 +61,10 @@ blocks_of_page = 0o200
 -- the physical addresses (bytes), of 18 bits
 abbrev pub physical_addresses : ℕ
 physical_addresses = 0o1000000
+
+-- the physical words
+abbrev pub physical_words : ℕ
+physical_words = 0o400000
 
 -- the first virtual address of the I/O page while mapping is off
 abbrev pub io_page : ℕ

@@ -36,8 +36,8 @@ with_page space number page kt = with_pages space (slice_set (pages_of space kt)
     (page_number number) page) kt
 
 -- as of power-up: every bit of every register is 0 [7.4]
-unfoldable pub powered_kt : MappingRegisters
-powered_kt = record {
+unfoldable pub kt_at_power_up : MappingRegisters
+kt_at_power_up = record {
   status = clear_status;
   last_fetch = 0;
   kernel = empty_page ∷ empty_page ∷ empty_page ∷ empty_page ∷ empty_page ∷ empty_page ∷ empty_page

@@ -8,7 +8,7 @@ use Rattle.pdp_kt11.specs.declared.place.Abort.{Abort}
 use Rattle.pdp_kt11.specs.declared.place.Access.TheVariants.{Write}
 use Rattle.pdp_kt11.specs.declared.status.MappingStatus.{MappingStatus}
 use Rattle.pdp_unibus.specs.Handbook.BusWorld.{BusWorld}
-use Rattle.pdp_unibus.specs.declared.io_page.IoPage.{IoPage}
+use Rattle.pdp_io_page.specs.declared.io_page.IoPage.{IoPage}
 use Rattle.pdp_operand.specs.Handbook.Reference.{Reference, access_of, is_odd, perform, translation}
 use Rattle.pdp_operand.specs.Laws.Trace.{touches}
 use Rattle.pdp_action.specs.declared.trap.Trap.{Trap}

@@ -11,11 +11,11 @@ use Rattle.pdp_cpu.specs.Saved.{SavedMachineData, saved_machine}
 use Rattle.pdp_replay.specs.Ask.LastWrites.{AreLastWrites, StampsOfCheckpointsAreLastWrites, StampsOfStatesAreLastWrites, last_write_of, last_write_at}
 use Rattle.pdp_replay.specs.Past.{Past}
 use Rattle.pdp_replay.specs.Past.Setup.{core_size}
-use Rattle.pdp_replay.specs.Run.States.{at, power, state_at, trace_at}
+use Rattle.pdp_replay.specs.Run.States.{at, first_world, state_at, trace_at}
 use Rattle.pdp_replay.proofs.run.CoreSizes.{core_keeps_size}
 
 pub stamps_keep_size : (p : Past) (n : ℕ) → length (state_at p n).bus.stamps ≡ core_size p.setup
-unfolding state_at power
+unfolding state_at first_world
 stamps_keep_size p zero = length-replicate (core_size p.setup) None
 stamps_keep_size p (suc n) = turn_keeps_stamps n (events_at p.script.entries n) (state_at p n) ∙ stamps_keep_size p n
 
@@ -27,7 +27,7 @@ all_the_same (suc size) (suc k) x = all_the_same size k x
 -- the stamp of a word is that of its last write in the turns before
 pub stamps_are : (p : Past) (n k : ℕ) → k < core_size p.setup
     → slice_index_or (state_at p n).bus.stamps k None ≡ last_write (trace_at p n) k None
-unfolding state_at trace_at power
+unfolding state_at trace_at first_world
 stamps_are p zero k below = all_the_same (core_size p.setup) k None
 stamps_are p (suc n) k below =
     turn_stamps n (events_at p.script.entries n) (state_at p n) k (rw (stamps_keep_size p n) below)

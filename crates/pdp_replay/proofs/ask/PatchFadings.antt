@@ -18,7 +18,7 @@ use Rattle.pdp_replay.specs.Past.FirstWords.{IsThere}
 use Rattle.pdp_replay.specs.Run.Branches.{AreAlikeAt, AreBeside, BranchesOff, IsBranchOf, IsKeptOfSize, IsUntouchedBranch}
 use Rattle.pdp_replay.specs.Run.FirstTouches.{first_touch, world_changed}
 use Rattle.pdp_replay.specs.Run.KeptRuns.{IsKeptRun, reached_by}
-use Rattle.pdp_replay.specs.Run.States.{at, power, state_at}
+use Rattle.pdp_replay.specs.Run.States.{at, first_world, state_at}
 use Rattle.pdp_replay.specs.declared.past.base_setup.BaseSetup.{BaseSetup}
 use Rattle.pdp_replay.specs.declared.run.branch.Branch.{Branch}
 use Rattle.pdp_replay.specs.declared.run.kept_run.KeptRun.{KeptRun}
@@ -56,14 +56,14 @@ value_there at_word word n known p there low alike =
 
 -- then it has this value as of power-up
 power_is : (at_word : WordAt) (word n known : ℕ) (p : Past) → IsThere p.setup at_word → n ≤ first_touch p at_word.part (at_word.number / 256) known
-    → AreAlikeAt n p (past_with_patch at_word word p) → power (setup_with_patch word p.setup at_word) ≡ power p.setup
+    → AreAlikeAt n p (past_with_patch at_word word p) → first_world (setup_with_patch word p.setup at_word) ≡ first_world p.setup
 power_is at_word word n known p there low alike =
     let part = at_word.part in
     let i = at_word.number in
     let first = (pages_alike p part (i / 256) n known low).words i refl in
-    (powers_of p.setup part i word there).is ∙ same_world part (power p.setup) i word (first ∙ value_there at_word word n known p there low alike)
+    (powers_of p.setup part i word there).is ∙ same_world part (first_world p.setup) i word (first ∙ value_there at_word word n known p there low alike)
 
-start_is : (p q : Past) → power q.setup ≡ power p.setup → at p 0 ≡ at q 0
+start_is : (p q : Past) → first_world q.setup ≡ first_world p.setup → at p 0 ≡ at q 0
 unfolding state_at Rattle.pdp_replay.specs.Run.States.text_at Rattle.pdp_replay.specs.Run.States.punched_at
 start_is p q same = ap (λ (w : World). record { turn = 0; world = w; text = []; punched = [] }) (sym same)
 

@@ -6,7 +6,7 @@ use Rattle.pdp_checkpoint.specs.declared.checkpoint.Checkpoint.{Checkpoint}
 use Rattle.pdp_cpu.specs.Saved.{SavedMachineData, saved_machine_with_delays, saved_machine}
 use Rattle.pdp_operand.specs.Phases.World.{world}
 use Rattle.pdp_unibus.specs.SavedBusData.{bus_with_tape}
-use Rattle.pdp_unibus.specs.declared.delays.Delays.{Delays}
+use Rattle.pdp_io_page.specs.declared.delays.Delays.{Delays}
 use Rattle.pdp_replay.specs.Past.FirstWords.{AllThere}
 use Rattle.pdp_replay.specs.Run.KeptRuns.{IsForgotten, IsKeptRun, cut_to_first}
 use Rattle.pdp_replay.specs.Run.Checkpoints.{AreKept, IsBuiltFrom}

@@ -6,7 +6,7 @@ use Rattle.std.proofs.lemmas.List.{length-replicate}
 use Rattle.pdp_checkpoint.specs.Ladder.{LadderData}
 use Rattle.pdp_checkpoint.specs.Patched.{HavePageAlike}
 use Rattle.pdp_cpu.specs.Saved.{HasWord, saved_machine}
-use Rattle.pdp_cpu.specs.Handbook.MachineState.{powered_world}
+use Rattle.pdp_cpu.specs.Handbook.MachineState.{world_at_power_up}
 use Rattle.pdp_operand.specs.Phases.World.{World}
 use Rattle.pdp_script.specs.Script.{ScriptData}
 use Rattle.pdp_script.specs.declared.faults.Fault.{Fault}
@@ -21,7 +21,7 @@ use Rattle.pdp_replay.specs.Run.Checkpoints.{AreKept, AreStatesOf, IsFormerOf}
 use Rattle.pdp_replay.specs.Past.{Past, with_setup}
 use Rattle.pdp_replay.specs.Past.PatchedWords.{Patches, is_same_word, patch_of}
 use Rattle.pdp_replay.specs.Past.Setup.{SetupData, core_size, drive_words}
-use Rattle.pdp_replay.specs.Run.States.{at, power}
+use Rattle.pdp_replay.specs.Run.States.{at, first_world}
 use Rattle.pdp_replay.specs.Timeline.{IsEngine, Timeline, after_setup_edit, core_edited, disk_edited, word_patched}
 use Rattle.pdp_replay.specs.declared.run.kept_run.KeptRun.{KeptRun}
 use Rattle.pdp_store.specs.declared.part.Part.{Part}
@@ -64,10 +64,10 @@ with_those_patches patches s = record s { patches = patches }
 
 -- the world as of power-up over these words
 abbrev power_over : SetupData → List ℕ → List (List ℕ) → World
-power_over s core drives = powered_world s.start core (replicate (core_size s) None) drives s.tape s.delays
+power_over s core drives = world_at_power_up s.start core (replicate (core_size s) None) drives s.tape s.delays
 
 powers_with_core : (s : SetupData) (i word : ℕ) → i < core_size s → PowersWith parts.Core i word s (patched s (word_at parts.Core i) word)
-unfolding power
+unfolding first_world
 powers_with_core s i word inside = record {
   is = ap₂ (power_over s) (core_patched s i word inside) (drives_stay s i word);
   there = rw (core_has_size s) inside;
@@ -78,7 +78,7 @@ length_at s drive there = ap length (drive_by_number s drive there) ∙ drive_ha
 
 powers_with_disk : (s : SetupData) (drive i word : ℕ) → drive < s.drives → i < drive_words
     → PowersWith (parts.Drive drive) i word s (patched s (word_at (parts.Drive drive) i) word)
-unfolding power
+unfolding first_world
 powers_with_disk s drive i word there inside = record {
   is = ap₂ (power_over s) (core_stays s drive i word) (drives_patched s drive i word there inside);
   there = rw (length_at s drive there) inside;
@@ -90,7 +90,7 @@ powers_of s (parts.Drive drive) i word inside = powers_with_disk s drive i word 
 
 powers_reverted : (s : SetupData) (i : ℕ) → i < core_size s → patch_of (unpatched s (word_at parts.Core i)).patches (word_at parts.Core i) ≡ None
     → PowersWith parts.Core i (slice_index s.core i) s (unpatched s (word_at parts.Core i))
-unfolding power
+unfolding first_world
 powers_reverted s i inside none = record {
   is = ap₂ (power_over s) (core_reverted s i inside none) (drives_stay_reverted s i);
   there = rw (core_has_size s) inside;

@@ -8,7 +8,7 @@ use Rattle.pdp_unibus.specs.Handbook.LastTurn.{last_turn}
 use Rattle.pdp_script.specs.declared.faults.Fault.{Fault}
 use Rattle.pdp_script.specs.declared.faults.Fault.TheVariants.{NoMemory, OutsideCore, OddAddress, OutsideDisk, NoSuchEvent, ScriptFull, TurnTooLarge, CountOutOfRange, NoSuchPatch, BadLine, LineTooLong, Input, Output, BadImage, BadSetup, NoSuchDrive}
 use Rattle.pdp_unibus.specs.declared.event.Event.{Event}
-use Rattle.pdp_unibus.specs.declared.delays.DelayedDevice.{DelayedDevice}
+use Rattle.pdp_io_page.specs.declared.delays.DelayedDevice.{DelayedDevice}
 use Rattle.pdp_replay.specs.Past.Edit.{event_alteration, event_drop, tape_edit, delay_edit}
 use Rattle.pdp_replay.specs.Past.{Past}
 use Rattle.pdp_replay.specs.Past.Setup.{SetupData, tape_bytes}

@@ -9,7 +9,7 @@ use Rattle.std.proofs.Math.Seq.{take-append_seam}
 use Rattle.pdp_checkpoint.specs.Ladder.{checkpoint_of}
 use Rattle.pdp_cpu.specs.KeptTexts.{kept_before}
 use Rattle.pdp_cpu.specs.Saved.{state_cut}
-use Rattle.pdp_cpu.specs.Handbook.MachineState.{MachineState, MachineWithTexts, powered_machine}
+use Rattle.pdp_cpu.specs.Handbook.MachineState.{MachineState, MachineWithTexts, machine_at_power_up}
 use Rattle.pdp_store.specs.FirstTouches.{FirstTouches, all_first_touches_before, first_touches_after, first_touches_before, first_touches_of, word_touched}
 use Rattle.pdp_store.specs.TracedAccess.{TracedAccess}
 use Rattle.pdp_store.specs.Parts.{is_same_part, word_at}
@@ -25,7 +25,7 @@ use Rattle.pdp_replay.specs.Run.Checkpoints.{AreKept, KeepsTexts, punched_kept_a
 use Rattle.pdp_replay.specs.Past.{Past}
 use Rattle.pdp_replay.specs.Past.PatchedWords.{Patches, is_same_word, patch_of}
 use Rattle.pdp_replay.specs.Past.Setup.{IsGood, SetupData, core_size, drive_words}
-use Rattle.pdp_replay.specs.Run.States.{at, power, powered_up, punched_at, text_at, trace_at}
+use Rattle.pdp_replay.specs.Run.States.{at, first_world, first_state, punched_at, text_at, trace_at}
 use Rattle.pdp_replay.specs.Run.Strides.{IsStride}
 use Rattle.pdp_replay.specs.Timeline.{IsEngine}
 use Rattle.pdp_replay.specs.declared.run.kept_run.KeptRun.{KeptRun}
@@ -78,11 +78,11 @@ eight_are s good there one =
 
 -- a machine as of power-up over these drives
 abbrev powered_with : SetupData → List (List ℕ) → MachineState
-powered_with s drives = powered_machine s.start (core_words s) (replicate (core_size s) None) drives s.tape s.delays
+powered_with s drives = machine_at_power_up s.start (core_words s) (replicate (core_size s) None) drives s.tape s.delays
 
 powered_more : (s : SetupData) → IsGood s → AllThere s s.patches → s.drives ≡ 1
-    → with_more_drives (more_drives s.disks) (powered_up s) ≡ powered_up (with_eight_drives s)
-unfolding power core_words
+    → with_more_drives (more_drives s.disks) (first_state s) ≡ first_state (with_eight_drives s)
+unfolding first_world core_words
 powered_more s good there one = ap (powered_with s) (sym (eight_are s good there one))
 
 widened_in : (s : SetupData) (part : Part) (number : ℕ) → s.drives ≡ 1 → PartHasWord s part number → PartHasWord (with_eight_drives s) part number
@@ -93,17 +93,17 @@ widened : (s : SetupData) (k : WordAt) → s.drives ≡ 1 → IsThere s k → Is
 widened s k one there = widened_in s k.part k.number one there
 
 -- a run whose machine is in its state of turn 0
-first_state : (p : Past) (r : KeptRun) → IsOnWay p r → r.machine.state.turn ≡ 0 → r.machine.state ≡ powered_up p.setup
-first_state p r on start = on.here ∙ ap (at p) start ∙ at_first p
+is_first_state : (p : Past) (r : KeptRun) → IsOnWay p r → r.machine.state.turn ≡ 0 → r.machine.state ≡ first_state p.setup
+is_first_state p r on start = on.here ∙ ap (at p) start ∙ at_first p
 
 -- with seven drives more it is in the first state of the run with eight
 begun_anew : (p q : Past) (before : KeptRun) → IsGood p.setup → AllThere p.setup p.setup.patches → IsOnWay p before
     → before.machine.state.turn ≡ 0 → p.setup.drives ≡ 1 → q.setup ≡ with_eight_drives p.setup
     → with_more_drives (more_drives p.setup.disks) before.machine.state ≡ at q 0
 begun_anew p q before good there on start one setup =
-    ap (with_more_drives (more_drives p.setup.disks)) (first_state p before on start)
+    ap (with_more_drives (more_drives p.setup.disks)) (is_first_state p before on start)
     ∙ powered_more p.setup good there one
-    ∙ ap powered_up (sym setup)
+    ∙ ap first_state (sym setup)
     ∙ sym (at_first q)
 
 -- before turn 0 nothing came out, so nothing is cut

@@ -9,7 +9,7 @@ use Rattle.pdp_store.specs.FirstTouches.{first_touches_after}
 use Rattle.pdp_replay.specs.Run.FirstTouches.{first_touches_at, untouched_all}
 use Rattle.pdp_replay.specs.Run.Checkpoints.{with_turn, text_kept_at, punched_kept_at}
 use Rattle.pdp_replay.specs.Past.{Past}
-use Rattle.pdp_replay.specs.Run.States.{at, power, state_at, text_at, punched_at, trace_at}
+use Rattle.pdp_replay.specs.Run.States.{at, first_world, state_at, text_at, punched_at, trace_at}
 
 -- the two have the same setup, and the same events in each turn before this one
 pub record Agree (p q : Past) (n : ℕ) : Type 0 where
@@ -21,7 +21,7 @@ agree_before p q n k agree le = record { setup = agree.setup; events = λ t belo
 
 pub same_state : (p q : Past) (n : ℕ) → Agree p q n → state_at p n ≡ state_at q n
 unfolding state_at
-same_state p q zero agree = ap power agree.setup
+same_state p q zero agree = ap first_world agree.setup
 same_state p q (suc n) agree =
     ap₂ (one_turn n) (agree.events n (omega arith)) (same_state p q n (agree_before p q (suc n) n agree (omega arith)))
 

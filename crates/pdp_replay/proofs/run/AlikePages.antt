@@ -14,13 +14,13 @@ use Rattle.pdp_script.specs.Entries.{events_at}
 use Rattle.pdp_replay.specs.Run.FirstTouches.{IsAsAtPowerUp, UntouchedPagesAreAlike}
 use Rattle.pdp_replay.specs.Past.{Past}
 use Rattle.pdp_replay.specs.Past.Setup.{core_size}
-use Rattle.pdp_replay.specs.Run.States.{power, state_at, trace_at}
+use Rattle.pdp_replay.specs.Run.States.{first_world, state_at, trace_at}
 use Rattle.pdp_replay.proofs.ask.LastWrites.{stamps_are, stamps_keep_size}
 use Rattle.pdp_replay.proofs.run.Untouched.{untouched_until}
 
 -- the words of a page stay if no access before turn n is to it
 words_stay : (p : Past) (part : Part) (page n : ℕ) → Avoids part page (trace_at p n)
-    → SamePage part page (power p.setup).bus (state_at p n).bus
+    → SamePage part page (first_world p.setup).bus (state_at p n).bus
 unfolding state_at trace_at
 words_stay p part page zero avoids = λ k inside. refl
 words_stay p part page (suc n) avoids =

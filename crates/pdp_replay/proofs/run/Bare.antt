@@ -11,7 +11,7 @@ use Rattle.pdp_cpu.specs.Handbook.MachineState.{world_with_first_touches}
 use Rattle.pdp_cpu.specs.Handbook.Turn.{one_turn, turn_trace}
 use Rattle.pdp_script.specs.Entries.{events_at}
 use Rattle.pdp_replay.specs.Past.{Past}
-use Rattle.pdp_replay.specs.Run.States.{power, state_at}
+use Rattle.pdp_replay.specs.Run.States.{first_world, state_at}
 
 turn_is_bare : (t : ℕ) (events : List Event) (w : World) → w.bus.first_touches ≡ no_first_touches → (one_turn t events w).bus.first_touches ≡ no_first_touches
 turn_is_bare t events w none =
@@ -20,11 +20,11 @@ turn_is_bare t events w none =
     ap (λ u. u.bus.first_touches) (sym (ap (one_turn t events) same) ∙ so.world_is) ∙ no_first_touches_after (turn_trace t events w)
 
 pub state_is_bare : (p : Past) (n : ℕ) → (state_at p n).bus.first_touches ≡ no_first_touches
-unfolding state_at power
+unfolding state_at first_world
 state_is_bare p zero = refl
 state_is_bare p (suc n) = turn_is_bare n (events_at p.script.entries n) (state_at p n) (state_is_bare p n)
 
 pub state_is_unlogged : (p : Past) (n : ℕ) → (state_at p n).bus.log ≡ no_log
-unfolding state_at power
+unfolding state_at first_world
 state_is_unlogged p zero = refl
 state_is_unlogged p (suc n) = turn_keeps_no_log n (events_at p.script.entries n) (state_at p n) (state_is_unlogged p n)

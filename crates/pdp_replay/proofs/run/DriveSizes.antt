@@ -5,12 +5,12 @@ use Rattle.pdp_script.specs.Entries.{events_at}
 use Rattle.pdp_replay.specs.Ask.Answer.{AreDrives}
 use Rattle.pdp_replay.specs.Past.{Past}
 use Rattle.pdp_replay.specs.Past.Setup.{drive_words}
-use Rattle.pdp_replay.specs.Run.States.{disk_of, power, state_at}
+use Rattle.pdp_replay.specs.Run.States.{disk_of, first_world, state_at}
 use Rattle.pdp_replay.proofs.past.FirstWords.{drives_have_sizes}
 
 -- each drive has its size in each state
 pub drives_keep_sizes : (p : Past) (n : ℕ) → map length (state_at p n).bus.drives ≡ replicate p.setup.drives drive_words
-unfolding state_at power
+unfolding state_at first_world
 drives_keep_sizes p zero = drives_have_sizes p.setup
 drives_keep_sizes p (suc n) = turn_keeps_drives n (events_at p.script.entries n) (state_at p n) ∙ drives_keep_sizes p n
 

@@ -12,7 +12,7 @@ use Rattle.pdp_script.specs.Entries.{events_at}
 use Rattle.pdp_replay.specs.Past.{Past}
 use Rattle.pdp_replay.specs.Past.Setup.{core_size}
 use Rattle.pdp_replay.specs.Run.FirstTouches.{first_touches_at, trace_of_turn, untouched_all}
-use Rattle.pdp_replay.specs.Run.States.{power, punched_at, state_at, text_at, trace_at}
+use Rattle.pdp_replay.specs.Run.States.{first_world, punched_at, state_at, text_at, trace_at}
 use Rattle.pdp_replay.specs.Run.Meetings.{EqualStaysEqual, FirstTouchesAreTaken, MeetAgain, MeetAt, TouchesNoMoreAgain, world_over}
 use Rattle.pdp_replay.proofs.ask.LastWrites.{stamps_keep_size}
 use Rattle.pdp_replay.proofs.run.GrowingTexts.{grow_alike}
@@ -70,7 +70,7 @@ none_early n zero = tt
 none_early n (suc size) = (tt, none_early n size)
 
 pub stamps_are_early : (p : Past) (n : ℕ) → AreBefore n (state_at p n).bus.stamps
-unfolding state_at power
+unfolding state_at first_world
 stamps_are_early p zero = none_early zero (core_size p.setup)
 stamps_are_early p (suc n) =
     subst (AreBefore (suc n)) (sym (stamps_next p n))

@@ -21,14 +21,14 @@ use Rattle.pdp_store.specs.FirstTouches.{all_first_touches_before, first_touches
 use Rattle.pdp_replay.specs.Run.Checkpoints.{AreStatesOf, IsFormerOf, IsKeptState, KeepsTexts}
 use Rattle.pdp_replay.specs.Past.{Past, with_setup}
 use Rattle.pdp_replay.specs.Past.Setup.{SetupData}
-use Rattle.pdp_replay.specs.Run.States.{at, power, punched_at, state_at, text_at}
+use Rattle.pdp_replay.specs.Run.States.{at, first_world, punched_at, state_at, text_at}
 use Rattle.pdp_replay.proofs.run.Lowered.{texts_cut}
 use Rattle.pdp_replay.proofs.run.Untouched.{AlikeRuns, alike_runs, changed_alike, part_keeps_size, state_changed, untouched_until}
 
 -- at power-up the other setup differs in this word, which is there
 pub record PowersWith (part : Part) (i word : ℕ) (r s : SetupData) : Type 0 where
-  pub is : power s ≡ world_changed part i word (power r)
-  pub there : i < length (words_of_part part (power r).bus)
+  pub is : first_world s ≡ world_changed part i word (first_world r)
+  pub there : i < length (words_of_part part (first_world r).bus)
 
 abbrev saved_machine_of : ℕ → World → List ℕ → List ℕ → SavedMachineData
 saved_machine_of n w text punched = saved_machine (record { turn = n; world = w; text = text; punched = punched })

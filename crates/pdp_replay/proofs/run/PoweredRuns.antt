@@ -1,7 +1,7 @@
 -- What a run keeps as of power-up.
 use Rattle.std.proofs.Common.{◌≡◌, ◌∙◌, ℕ, List, [], ◌∷◌, None, Option, ap, ap₂, arith, refl, replicate, sym}
 use Rattle.pdp_checkpoint.specs.Ladder.{AreCheckpoints, LadderData, checkpoint_of}
-use Rattle.pdp_cpu.specs.Handbook.MachineState.{MachineState, MachineWithTexts, powered_machine}
+use Rattle.pdp_cpu.specs.Handbook.MachineState.{MachineState, MachineWithTexts, machine_at_power_up}
 use Rattle.pdp_store.specs.declared.Stamp.{Stamp}
 use Rattle.pdp_store.specs.Stored.{no_touch_in}
 use Rattle.pdp_replay.specs.Past.FirstWords.{core_words, drives_words}
@@ -9,7 +9,7 @@ use Rattle.pdp_replay.specs.Past.Image.{padded_image}
 use Rattle.pdp_replay.specs.Run.Checkpoints.{AreKept, IsInRun, KeepsTexts, punched_kept_at, text_kept_at}
 use Rattle.pdp_replay.specs.Past.{Past, past_without_events}
 use Rattle.pdp_replay.specs.Past.Setup.{IsGood, SetupData, core_size, drive_words, image_of}
-use Rattle.pdp_replay.specs.Run.States.{at, power, powered_up, trace_at}
+use Rattle.pdp_replay.specs.Run.States.{at, first_world, first_state, trace_at}
 use Rattle.pdp_store.specs.FirstTouches.{first_touches_after, first_touches_of}
 use Rattle.pdp_replay.specs.Run.FirstTouches.{untouched_all}
 use Rattle.pdp_replay.proofs.past.FirstWords.{core_is_padded, drive_is_padded, image_fits, one_drive}
@@ -19,10 +19,10 @@ use Rattle.pdp_replay.proofs.run.States.{at_first}
 
 -- the machine of this setup over such core, such stamps and such drives
 abbrev pub machine_over : SetupData → List ℕ → List (Option Stamp) → List (List ℕ) → MachineState
-machine_over s core stamps drives = powered_machine s.start core stamps drives s.tape s.delays
+machine_over s core stamps drives = machine_at_power_up s.start core stamps drives s.tape s.delays
 
-machine_is_powered : (s : SetupData) → machine_over s (core_words s) (replicate (core_size s) None) (drives_words s) ≡ powered_up s
-unfolding power
+machine_is_powered : (s : SetupData) → machine_over s (core_words s) (replicate (core_size s) None) (drives_words s) ≡ first_state s
+unfolding first_world
 machine_is_powered s = refl
 
 -- over padded images, of one drive, it is in the first state of the run

@@ -7,13 +7,13 @@ use Rattle.pdp_unibus.specs.SavedBusData.{HasSizesOf}
 use Rattle.pdp_script.specs.Entries.{events_at}
 use Rattle.pdp_replay.specs.Run.Checkpoints.{IsBuiltFrom}
 use Rattle.pdp_replay.specs.Past.{Past}
-use Rattle.pdp_replay.specs.Run.States.{at, power, state_at}
+use Rattle.pdp_replay.specs.Run.States.{at, first_world, state_at}
 use Rattle.pdp_replay.proofs.run.CoreSizes.{core_keeps_size}
 use Rattle.pdp_replay.proofs.run.DriveSizes.{drives_keep_sizes}
 use Rattle.pdp_replay.proofs.ask.LastWrites.{stamps_keep_size}
 
 pub tape_stays : (p : Past) (n : ℕ) → (state_at p n).bus.tape ≡ p.setup.tape
-unfolding state_at power
+unfolding state_at first_world
 tape_stays p zero = refl
 tape_stays p (suc n) = turn_keeps_tape n (events_at p.script.entries n) (state_at p n) ∙ tape_stays p n
 

@@ -3,9 +3,9 @@ use Rattle.std.proofs.Common.{◌≡◌, ℕ, ◌+◌, refl, add-one}
 use Rattle.pdp_cpu.specs.Handbook.MachineState.{after_turn}
 use Rattle.pdp_script.specs.Entries.{events_at}
 use Rattle.pdp_replay.specs.Past.{Past}
-use Rattle.pdp_replay.specs.Run.States.{state_at, text_at, punched_at, at, powered_up}
+use Rattle.pdp_replay.specs.Run.States.{state_at, text_at, punched_at, at, first_state}
 
-pub at_first : (p : Past) → at p 0 ≡ powered_up p.setup
+pub at_first : (p : Past) → at p 0 ≡ first_state p.setup
 unfolding state_at text_at punched_at
 at_first p = refl
 

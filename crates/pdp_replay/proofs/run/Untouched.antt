@@ -20,7 +20,7 @@ use Rattle.pdp_replay.specs.Past.{Past, with_setup}
 use Rattle.pdp_replay.specs.Past.Setup.{SetupData}
 use Rattle.pdp_replay.proofs.run.CoreSizes.{core_keeps_size}
 use Rattle.pdp_replay.proofs.run.DriveSizes.{drives_keep_sizes}
-use Rattle.pdp_replay.specs.Run.States.{power, state_at, text_at, punched_at, trace_at}
+use Rattle.pdp_replay.specs.Run.States.{first_world, state_at, text_at, punched_at, trace_at}
 
 -- the runs of p and of p with another setup, before turn n: they differ at most in the words of
 -- this page, each has there what it had at power-up, and all that came out, and the traces, are the
@@ -29,8 +29,8 @@ pub record AlikeRuns (part : Part) (page : ℕ) (p : Past) (s : SetupData) (n : 
   pub words : List ℕ
   pub is : state_at (with_setup p s) n ≡ world_with part words (state_at p n)
   pub alike : AlikeWords page (words_of_part part (state_at p n).bus) words
-  pub page_of_one : SamePage part page (power p.setup).bus (state_at p n).bus
-  pub page_of_other : SamePage part page (power s).bus (state_at (with_setup p s) n).bus
+  pub page_of_one : SamePage part page (first_world p.setup).bus (state_at p n).bus
+  pub page_of_other : SamePage part page (first_world s).bus (state_at (with_setup p s) n).bus
   pub text : text_at (with_setup p s) n ≡ text_at p n
   pub punched : punched_at (with_setup p s) n ≡ punched_at p n
   pub kept_text : text_kept_at (with_setup p s) n ≡ text_kept_at p n
@@ -40,8 +40,8 @@ pub record AlikeRuns (part : Part) (page : ℕ) (p : Past) (s : SetupData) (n : 
 -- at power-up
 pub record AlikePowers (part : Part) (page : ℕ) (r s : SetupData) : Type 0 where
   pub words : List ℕ
-  pub is : power s ≡ world_with part words (power r)
-  pub alike : AlikeWords page (words_of_part part (power r).bus) words
+  pub is : first_world s ≡ world_with part words (first_world r)
+  pub alike : AlikeWords page (words_of_part part (first_world r).bus) words
 
 pub alike_runs : (part : Part) (page : ℕ) (p : Past) (s : SetupData) → AlikePowers part page p.setup s → (n : ℕ)
     → Avoids part page (trace_at p n) → AlikeRuns part page p s n
@@ -119,8 +119,8 @@ changed_alike page i word xs in_page = record {
 
 -- the state of the patched run is that of the old one with the word changed, at each turn before
 -- which the page isn't touched
-pub state_changed : (part : Part) (i word : ℕ) (p : Past) (s : SetupData) (n : ℕ) → power s ≡ world_changed part i word (power p.setup)
-    → i < length (words_of_part part (power p.setup).bus) → i < length (words_of_part part (state_at p n).bus) → Avoids part (i / 256) (trace_at p n)
+pub state_changed : (part : Part) (i word : ℕ) (p : Past) (s : SetupData) (n : ℕ) → first_world s ≡ world_changed part i word (first_world p.setup)
+    → i < length (words_of_part part (first_world p.setup).bus) → i < length (words_of_part part (state_at p n).bus) → Avoids part (i / 256) (trace_at p n)
     → state_at (with_setup p s) n ≡ world_changed part i word (state_at p n)
 state_changed part i word p s n is first within avoids =
     let page = i / 256 in
@@ -128,10 +128,10 @@ state_changed part i word p s n is first within avoids =
     let so = alike_runs part page p s (record { words = _; is = is; alike = changed_alike page i word _ refl }) n avoids in
     let w = state_at p n in
     let put : words_of_part part (state_at q n).bus ≡ so.words = ap (λ (v : World). words_of_part part v.bus) so.is ∙ words_put part so.words w.bus i within in
-    let powers : words_of_part part (power s).bus ≡ slice_set (words_of_part part (power p.setup).bus) i word
-    = ap (λ (v : World). words_of_part part v.bus) is ∙ words_put part _ (power p.setup).bus i first in
+    let powers : words_of_part part (first_world s).bus ≡ slice_set (words_of_part part (first_world p.setup).bus) i word
+    = ap (λ (v : World). words_of_part part v.bus) is ∙ words_put part _ (first_world p.setup).bus i first in
     so.is ∙ ap (λ words. world_with part words w)
-    (one_word page i word (words_of_part part w.bus) so.words (words_of_part part (power p.setup).bus) (words_of_part part (power s).bus) so.alike so.page_of_one
+    (one_word page i word (words_of_part part w.bus) so.words (words_of_part part (first_world p.setup).bus) (words_of_part part (first_world s).bus) so.alike so.page_of_one
     (λ k inside. so.page_of_other k inside ∙ ap (λ xs. slice_index xs k) put) powers refl first within)
 
 -- a part keeps its size
@@ -236,8 +236,8 @@ untouched_until p part page k n low =
     avoided_until p part page rest n (subst (λ m. Avoids part page (trace_at p m)) whole (untouched_before p part page k))
 
 -- so a patch of a word reaches to the first touch of its page
-pub patched_until : (part : Part) (i word n k : ℕ) (p : Past) (s : SetupData) → power s ≡ world_changed part i word (power p.setup)
-    → i < length (words_of_part part (power p.setup).bus) → n ≤ first_touch p part (i / 256) k
+pub patched_until : (part : Part) (i word n k : ℕ) (p : Past) (s : SetupData) → first_world s ≡ world_changed part i word (first_world p.setup)
+    → i < length (words_of_part part (first_world p.setup).bus) → n ≤ first_touch p part (i / 256) k
     → state_at (with_setup p s) n ≡ world_changed part i word (state_at p n)
 unfolding state_at
 patched_until part i word n k p s is within low =

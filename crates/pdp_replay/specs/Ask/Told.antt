@@ -1,4 +1,4 @@
--- What every call that asks something of a run tells, and where it leaves the machine [P].
+-- What every call that asks something of a run tells, and where it leaves the machine.
 use Rattle.std.specs.Prelude.{ℕ, ◌≡◌, ◌+◌, max, true}
 use Rattle.pdp_replay.specs.Timeline.{Timeline}
 use Rattle.pdp_replay.specs.declared.ask.told.Told.{Told}

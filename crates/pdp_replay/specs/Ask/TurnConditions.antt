@@ -9,7 +9,7 @@ use Rattle.pdp_operand.specs.Handbook.Processor.{register_of}
 use Rattle.pdp_operand.specs.Handbook.RegisterId.{stack_of}
 use Rattle.pdp_operand.specs.Phases.World.{World}
 use Rattle.pdp_operand.specs.declared.processor.RegisterId.TheVariants as register
-use Rattle.pdp_unibus.specs.Handbook.Status.{status_word}
+use Rattle.pdp_io_page.specs.Handbook.Status.{status_word}
 use Rattle.pdp_cpu.specs.Turns.CalmTurns.{after_calm_turns}
 use Rattle.pdp_cpu.specs.Handbook.MachineState.{MachineWithTexts}
 use Rattle.pdp_cpu.specs.declared.act.Act.{Act}

@@ -7,7 +7,7 @@ use Rattle.pdp_kt11.specs.declared.place.Abort.{Abort}
 use Rattle.pdp_kt11.specs.declared.place.Access.TheVariants.{Read}
 use Rattle.pdp_unibus.specs.Handbook.BusWorld.{BusWorld}
 use Rattle.pdp_unibus.specs.Handbook.Cycle.{Slave, Core, Device, Nobody, ReadAt, cycle, slave_at}
-use Rattle.pdp_unibus.specs.declared.register.Register.{Register}
+use Rattle.pdp_io_page.specs.declared.register.Register.{Register}
 use Rattle.pdp_script.specs.declared.faults.Fault.{Fault}
 use Rattle.pdp_script.specs.declared.faults.Fault.TheVariants.{CountOutOfRange, OddAddress}
 use Rattle.pdp_replay.specs.Ask.Limits.{most_words_of_answer}

@@ -11,9 +11,9 @@ use Rattle.pdp_script.specs.declared.faults.Fault.{Fault}
 use Rattle.pdp_script.specs.declared.faults.Fault.TheVariants.{BadImage, OutsideCore, OddAddress}
 use Rattle.pdp_script.specs.declared.faults.Fault.TheVariants.{OutsideDisk, NoSuchPatch}
 use Rattle.pdp_script.specs.declared.faults.Fault.TheVariants.{TurnTooLarge, NoSuchDrive}
-use Rattle.pdp_unibus.specs.Handbook.Delays.{with_delay}
+use Rattle.pdp_io_page.specs.Handbook.Delays.{with_delay}
 use Rattle.pdp_unibus.specs.Handbook.LastTurn.{last_turn}
-use Rattle.pdp_unibus.specs.declared.delays.DelayedDevice.{DelayedDevice}
+use Rattle.pdp_io_page.specs.declared.delays.DelayedDevice.{DelayedDevice}
 use Rattle.pdp_unibus.specs.declared.event.Event.{Event}
 use Rattle.pdp_store.specs.Parts.{word_at}
 use Rattle.pdp_replay.specs.Past.PatchedWords.{is_same_word, patch_of}

@@ -1,4 +1,4 @@
--- A machine that goes on from a saved machine of another run, which its own run meets [P].
+-- A machine that goes on from a saved machine of another run, which its own run meets.
 use Rattle.std.specs.Prelude.{ℕ, ◌≡◌, ◌+◌, ◌++◌, drop, length}
 use Rattle.pdp_store.specs.Overlays.{first_touches_over}
 use Rattle.pdp_cpu.specs.Saved.{SavedMeet, saved_machine, saved_over, state_on}

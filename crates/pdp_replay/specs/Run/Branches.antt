@@ -1,4 +1,4 @@
--- Branches: a machine beside that of a run, in a state of the run of another past [P].
+-- Branches: a machine beside that of a run, in a state of the run of another past.
 use Rattle.std.specs.Prelude.{ℕ, ◌≡◌, ◌*◌, ◌/◌, ◌≤◌, ◌<◌, List, [], length, map, max, replicate}
 use Rattle.pdp_cpu.specs.Saved.{SavedMachineData, SavedMeet, saved_machine}
 use Rattle.pdp_cpu.specs.Handbook.MachineState.{MachineWithTexts}

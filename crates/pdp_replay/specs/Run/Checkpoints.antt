@@ -1,5 +1,5 @@
 -- What an engine keeps of a run: the bytes that came out of it, with their turns, and some of its
--- states [P].
+-- states.
 use Rattle.std.specs.Prelude.{ℕ, zero, suc, ◌≡◌, ◌≤◌, ◌+◌, ◌/◌, ◌++◌, List, [], length, map}
 use Rattle.std.specs.Prelude.{drop, replicate}
 use Rattle.std.specs.List.{All}

@@ -1,4 +1,4 @@
--- Whether two saved machines meet, and whether two scripts have the same events, decided [P].
+-- Whether two saved machines meet, and whether two scripts have the same events, decided.
 use Rattle.std.specs.Prelude.{ℕ, Bool, List, length}
 use Rattle.pdp_unibus.specs.declared.event.Event.{Event}
 use Rattle.pdp_cpu.specs.Saved.{SavedMachineData, SavedMeet}

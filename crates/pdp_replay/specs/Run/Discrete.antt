@@ -1,5 +1,5 @@
 -- Deciding whether two values are equal: numbers, flags, pairs, lists, options, records field by
--- field, and what can be written as one of these and read back [P].
+-- field, and what can be written as one of these and read back.
 use Rattle.std.specs.Prelude.{ℕ, ◌≡◌, ◌⊎◌, refl, Bool, Option, Some, None, option_to_list}
 use Rattle.std.specs.Prelude.{true, false, List, [], ◌∷◌, drop, get_or, length}
 use Rattle.std.proofs.Math.Bool.{Bool-discrete}

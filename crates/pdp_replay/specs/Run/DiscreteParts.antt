@@ -1,4 +1,4 @@
--- Deciding whether two parts of machines are equal, and two events [P].
+-- Deciding whether two parts of machines are equal, and two events.
 use Rattle.std.specs.Prelude.{true, false, [], ◌∷◌, get_or, refl}
 use Rattle.pdp_word.specs.declared.codes.Codes.{Codes}
 use Rattle.pdp_kt11.specs.Handbook.Apr.{access_bits, access_control_of, expansion_of, numbered_page}
@@ -31,16 +31,16 @@ use Rattle.pdp_rk11.specs.declared.failure.Failure.TheVariants.{NoMemory, WriteL
 use Rattle.pdp_rk11.specs.declared.function.Function.{Function}
 use Rattle.pdp_rk11.specs.declared.function.Function.TheVariants.{ControlReset}
 use Rattle.pdp_rk11.specs.declared.rk.Rk.{Rk}
-use Rattle.pdp_unibus.specs.Handbook.Status.{priority_bits, priority_of}
-use Rattle.pdp_unibus.specs.declared.delays.Delays.{Delays}
+use Rattle.pdp_io_page.specs.Handbook.Status.{priority_bits, priority_of}
+use Rattle.pdp_io_page.specs.declared.delays.Delays.{Delays}
 use Rattle.pdp_unibus.specs.declared.event.Event.{Event}
 use Rattle.pdp_unibus.specs.declared.event.Event.TheVariants.{Key, Tick, PrinterDone, ReaderDone}
 use Rattle.pdp_unibus.specs.declared.event.Event.TheVariants.{PunchDone, DiskDone, Switches}
 use Rattle.pdp_unibus.specs.declared.event.Event.TheVariants.{Continue}
-use Rattle.pdp_unibus.specs.declared.io_page.IoPage.{IoPage}
-use Rattle.pdp_unibus.specs.declared.priority.Priority.{Priority}
-use Rattle.pdp_unibus.specs.declared.priority.Priority.TheVariants.{Level0}
-use Rattle.pdp_unibus.specs.declared.status.Status.{Status}
+use Rattle.pdp_io_page.specs.declared.io_page.IoPage.{IoPage}
+use Rattle.pdp_io_page.specs.declared.priority.Priority.{Priority}
+use Rattle.pdp_io_page.specs.declared.priority.Priority.TheVariants.{Level0}
+use Rattle.pdp_io_page.specs.declared.status.Status.{Status}
 use Rattle.pdp_operand.specs.declared.processor.Processor.{Processor}
 use Rattle.pdp_operand.specs.declared.processor.RunState.{RunState}
 use Rattle.pdp_operand.specs.declared.processor.RunState.TheVariants.{Run, Wait, Halted}

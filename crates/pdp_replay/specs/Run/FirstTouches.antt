@@ -1,4 +1,4 @@
--- The first touches of pages in a run [P].
+-- The first touches of pages in a run.
 use Rattle.std.specs.Prelude.{ℕ, ◌≡◌, ◌+◌, ◌/◌, ◌<◌, ◌≤◌, ◌==◌, ◌&&◌, ◌||◌, Bool, false, List}
 use Rattle.std.specs.Prelude.{[], ◌∷◌}
 use Rattle.std.specs.Prelude.{None, if◌then◌else◌, length, nat_lt, replicate, slice_index_or}
@@ -17,7 +17,7 @@ use Rattle.pdp_store.specs.FirstTouches.{never}
 use Rattle.pdp_store.specs.Stored.{no_touch_in}
 use Rattle.pdp_replay.specs.Past.{Past, with_setup}
 use Rattle.pdp_replay.specs.Past.Setup.{SetupData, core_size, drive_words}
-use Rattle.pdp_replay.specs.Run.States.{power, state_at, trace_at}
+use Rattle.pdp_replay.specs.Run.States.{first_world, state_at, trace_at}
 
 -- whether a trace has an access of any kind to this page of 256 words
 abbrev pub meets : Part → ℕ → List TracedAccess → Bool
@@ -61,8 +61,8 @@ world_changed part i word w = world_with part (slice_set (words_of_part part w.b
 -- the word changed
 abbrev pub PatchesReachTheFirstTouch : Type 0
 PatchesReachTheFirstTouch = (part : Part) (i word n k : ℕ) (p : Past) (s : SetupData)
-    → power s ≡ world_changed part i word (power p.setup)
-    → i < length (words_of_part part (power p.setup).bus) → n ≤ first_touch p part (i / 256) k
+    → first_world s ≡ world_changed part i word (first_world p.setup)
+    → i < length (words_of_part part (first_world p.setup).bus) → n ≤ first_touch p part (i / 256) k
     → state_at (with_setup p s) n ≡ world_changed part i word (state_at p n)
 
 -- the first touches of the pages of core and of each drive, if none is touched
@@ -101,7 +101,7 @@ LateTouchesAreDropped = (p : Past) (k d : ℕ) → k ≤ never
 
 -- before turn n the words of this page are those of power-up, and none of them has a stamp
 pub record IsAsAtPowerUp (p : Past) (part : Part) (page n : ℕ) : Type 0 where
-  pub words : SamePage part page (power p.setup).bus (state_at p n).bus
+  pub words : SamePage part page (first_world p.setup).bus (state_at p n).bus
   pub unstamped : part ≡ Core → (k : ℕ) → k / 256 ≡ page
       → slice_index_or (state_at p n).bus.stamps k None ≡ None
 

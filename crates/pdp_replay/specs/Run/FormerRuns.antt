@@ -1,4 +1,4 @@
--- A run that goes on from states of a former run, which it meets [P].
+-- A run that goes on from states of a former run, which it meets.
 use Rattle.std.specs.Prelude.{ℕ, ◌≡◌, ◌≤◌, ◌<◌, List}
 use Rattle.std.specs.List.{All}
 use Rattle.pdp_checkpoint.specs.Formers.{FormerData, IsStateIn}

@@ -1,4 +1,4 @@
--- The run that an engine keeps, between its calls and on the way [P].
+-- The run that an engine keeps, between its calls and on the way.
 use Rattle.std.specs.Prelude.{ℕ, ◌≡◌, ◌+◌, ◌*◌, ◌-◌, ◌/◌, ◌^◌, ◌<◌, ◌≤◌, ◌&&◌, Bool, true, false}
 use Rattle.std.specs.Prelude.{◌++◌, List, [], ◌∷◌, Some, length, max, min, nat_le, nat_lt}
 use Rattle.std.specs.Prelude.{if◌then◌else◌}

@@ -1,4 +1,4 @@
--- Two runs that meet: their states are equal except for stamps, and their events from then on [P].
+-- Two runs that meet: their states are equal except for stamps, and their events from then on.
 use Rattle.std.specs.Prelude.{ℕ, ◌≡◌, ◌≤◌, ◌+◌, ◌++◌, drop, length}
 use Rattle.pdp_store.specs.Overlays.{first_touches_over, stamps_over}
 use Rattle.pdp_operand.specs.Phases.World.{World}

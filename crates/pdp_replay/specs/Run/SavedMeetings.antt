@@ -1,4 +1,4 @@
--- What is saved of two runs that meet, and the bytes that are kept of them [P].
+-- What is saved of two runs that meet, and the bytes that are kept of them.
 use Rattle.std.specs.Prelude.{ℕ, ◌≡◌, ◌+◌, ◌++◌, drop, length}
 use Rattle.pdp_cpu.specs.Saved.{SavedMeet, saved_machine, saved_over}
 use Rattle.pdp_replay.specs.Past.{Past}

@@ -5,7 +5,7 @@ use Rattle.pdp_store.specs.Parts.{words_of_drive}
 use Rattle.pdp_store.specs.TracedAccess.{TracedAccess}
 use Rattle.pdp_operand.specs.Phases.World.{World}
 use Rattle.pdp_cpu.specs.Handbook.Turn.{one_turn, printed_in, punched_in, turn_trace}
-use Rattle.pdp_cpu.specs.Handbook.MachineState.{MachineState, powered_world}
+use Rattle.pdp_cpu.specs.Handbook.MachineState.{MachineState, world_at_power_up}
 use Rattle.pdp_script.specs.Entries.{events_at}
 use Rattle.pdp_script.specs.Script.{ScriptData}
 use Rattle.pdp_replay.specs.Past.Setup.{SetupData, core_size}
@@ -14,14 +14,14 @@ use Rattle.pdp_replay.specs.Past.{Past}
 
 -- power-up: core and the drives with the patches, the tape in the reader, and the delays [7.5]
 -- [7.6] [7.8]
-unfoldable pub power : SetupData → World
-power s = powered_world s.start (core_words s) (replicate (core_size s) None)
+unfoldable pub first_world : SetupData → World
+first_world s = world_at_power_up s.start (core_words s) (replicate (core_size s) None)
     (drives_words s) s.tape s.delays
 
 -- the state before turn n: that of power-up, taken through the turns 0 to n - 1, each with its
 -- events of the script [8.3]
 unfoldable pub state_at : Past → ℕ → World
-state_at p zero = power p.setup
+state_at p zero = first_world p.setup
 state_at p (suc n) = one_turn n (events_at p.script.entries n) (state_at p n)
 
 -- the bytes that were printed on the console before turn n, in their order: those of the turns 0 to
@@ -45,8 +45,8 @@ abbrev pub disk_of : World → ℕ → List ℕ
 disk_of w drive = words_of_drive w.bus.drives drive
 
 -- the machine as of power-up: no byte was printed or punched
-abbrev pub powered_up : SetupData → MachineState
-powered_up s = record { turn = 0; world = power s; text = []; punched = [] }
+abbrev pub first_state : SetupData → MachineState
+first_state s = record { turn = 0; world = first_world s; text = []; punched = [] }
 
 -- the machine before turn n
 abbrev pub at : Past → ℕ → MachineState

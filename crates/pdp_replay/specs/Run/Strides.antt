@@ -1,4 +1,4 @@
--- How far apart checkpoints are [P].
+-- How far apart checkpoints are.
 use Rattle.std.specs.Prelude.{◌≡◌, ℕ, ◌*◌, ◌^◌, ◌<◌, ◌≤◌}
 
 -- the stride: the starting one, doubled the fewest times such that the highest known turn so far,

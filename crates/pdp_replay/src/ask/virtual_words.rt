@@ -6,9 +6,9 @@ ghost use Rattle.pdp_replay.specs.Ask.VirtualReads.{virtual_checked, virtual_wor
 use crate::ask::Words;
 use crate::ask::items::{Items, MOST_WORDS};
 use pdp_cpu::PagedMachine;
+use pdp_io_page::register_at_address;
 use pdp_kt11::{Abort, Access, Kt, Mode};
 use pdp_script::Fault;
-use pdp_unibus::register_at_address;
 use pdp_word::NoMemory;
 use std::alloc::Global;
 

@@ -8,9 +8,10 @@ ghost use Rattle.pdp_replay.specs.Timeline.{tape_replaced, delay_set};
 
 use crate::engine::Engine;
 use crate::past::{DRIVE_WORDS, DriveCount, TAPE_BYTES, more_drives};
+use pdp_io_page::DelayedDevice;
 use pdp_script::Fault;
 use pdp_store::{Part, WordAt};
-use pdp_unibus::{DelayedDevice, LAST_TURN};
+use pdp_unibus::LAST_TURN;
 
 impl Engine {
     /// Makes the word of this number on the drive of this number (both counted from 0) equal to

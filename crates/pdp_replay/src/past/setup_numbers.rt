@@ -1,4 +1,4 @@
-use pdp_unibus::Delays;
+use pdp_io_page::Delays;
 
 /// The numbers of a setup: all of it but images, patches, the bytes of the tape, and drives [P].
 #[derive(Clone, Copy)]

@@ -4,8 +4,8 @@ ghost use Rattle.std.specs.Prelude.{◌≡◌, ◌+◌, ◌≤◌, length, map, 
 ghost use Rattle.pdp_store.specs.Stored.{no_touch_in};
 ghost use Rattle.pdp_replay.specs.Past.{Past};
 ghost use Rattle.pdp_replay.specs.Past.Edit.{past_with_patch};
-ghost use Rattle.pdp_replay.specs.Run.Branches.{AreBeside, BranchesOff, Compares, IsBlank, IsBranchAt};
-ghost use Rattle.pdp_replay.specs.Run.Branches.{IsBranchOf, IsLookedAt, IsRunOfSize};
+ghost use Rattle.pdp_replay.specs.Run.Branches.{AreBeside, BranchesOff, Compares, IsBlank};
+ghost use Rattle.pdp_replay.specs.Run.Branches.{IsBranchAt, IsBranchOf, IsLookedAt, IsRunOfSize};
 ghost use Rattle.pdp_replay.specs.Run.Branches.{IsSomewhereUntouched, IsUntouchedBranch};
 ghost use Rattle.pdp_replay.specs.Run.Branches.{KeepsBranch, WasAt};
 ghost use Rattle.pdp_replay.specs.Run.KeptRuns.{KeepsRun};
@@ -14,9 +14,10 @@ use crate::past::{BaseSetup, DRIVE_WORDS, UNIT_WORDS};
 use crate::run::{KeptRun, run_part};
 use pdp_cpu::{Machine, Meter, PagedMachine, Saved, WordTable};
 use pdp_icache::Lines;
+use pdp_io_page::Delays;
 use pdp_script::Script;
 use pdp_store::{Paged, PagedDrive, WordAt};
-use pdp_unibus::{Delays, LAST_TURN};
+use pdp_unibus::LAST_TURN;
 use pdp_word::NoMemory;
 use std::alloc::Global;
 
@@ -171,7 +172,7 @@ fn blank_machine(
     let drives = blank_drives(alloc, base_setup.drives.count())?;
     let lines = Lines::new(alloc)?;
     let (start, delays) = (base_setup.start, Delays::standard());
-    Ok(Machine::power(alloc, lines, start, core, drives, tape, delays))
+    Ok(Machine::at_power_up(alloc, lines, start, core, drives, tape, delays))
 }
 
 /// `count` drives, whose words are all 0.

@@ -17,8 +17,8 @@ ghost use Rattle.pdp_unibus.specs.SavedBusData.{bus_with_tape};
 
 use crate::run::KeptRun;
 use pdp_checkpoint::{Former, Ladder};
+use pdp_io_page::Delays;
 use pdp_store::{PAGE_WORDS, PagedDrive, WordAt};
-use pdp_unibus::Delays;
 use pdp_word::NoMemory;
 use std::alloc::Global;
 

@@ -21,8 +21,9 @@ use crate::run::{next_pause, run_part};
 use pdp_checkpoint::Ladder;
 use pdp_cpu::{Act, Machine, Meter, PagedMachine, WordTable};
 use pdp_icache::Lines;
+use pdp_io_page::Delays;
 use pdp_script::Script;
-use pdp_unibus::{Delays, LAST_TURN};
+use pdp_unibus::LAST_TURN;
 use pdp_word::NoMemory;
 use std::alloc::Global;
 use std::mem;
@@ -45,7 +46,7 @@ impl KeptRun {
     /// the first state is kept.
     ///
     /// Err if memory was refused.
-    pub(crate) fn power(
+    pub(crate) fn at_power_up(
         alloc: Global,
         base_setup: &BaseSetup,
         tape: Vec<u8>,
@@ -303,5 +304,5 @@ fn first_machine(
     let drives = vec![in alloc; drive_store(alloc, base_setup.image(0))?]?;
     let delays = Delays::standard();
     let lines = Lines::new(alloc)?;
-    Ok(Machine::power(alloc, lines, base_setup.start, core, drives, tape, delays))
+    Ok(Machine::at_power_up(alloc, lines, base_setup.start, core, drives, tape, delays))
 }

@@ -19,6 +19,7 @@ use Rattle.pdp_rk11.specs.Handbook.Bits.{rker_no_sector}
 use Rattle.pdp_rk11.specs.Handbook.Bits.{rker_overrun}
 use Rattle.pdp_rk11.specs.Handbook.Bits.{rker_write_locked}
 use Rattle.pdp_rk11.specs.Handbook.Geometry.{address_bit_16, drive_in}
+use Rattle.pdp_rk11.specs.declared.rk.ControlWrite.{ControlWrite}
 use Rattle.pdp_rk11.specs.declared.function.Function.{Function}
 use Rattle.pdp_rk11.specs.declared.function.Function.TheVariants.{ControlReset, Write, Read}
 use Rattle.pdp_rk11.specs.declared.function.Function.TheVariants.{WriteCheck, Seek, ReadCheck}
@@ -155,32 +156,33 @@ with_command word rk = record rk {
 
 -- a function begins, but for control reset: ready, the errors and search complete are cleared
 -- [6.71]
-abbrev pub begun_function : ℕ → ℕ → ℕ → Rk → Rk
-begun_function word turn delay rk = record (with_command word rk) {
-  ready_enable = ready_enable_with false (is_set rkcs_enable word) rk.ready_enable;
+abbrev pub begun_function : ControlWrite → Rk → Rk
+begun_function write rk = record (with_command write.word rk) {
+  ready_enable = ready_enable_with false (is_set rkcs_enable write.word) rk.ready_enable;
   search_complete = false;
   write_check = false;
   failure = None;
-  operation = begun_operation turn delay;
+  operation = begun_operation write.turn write.delay;
 }
 
 -- go with this function, while ready: control reset acts at once [6.70] [6.73]
-abbrev pub gone_with : Function → ℕ → ℕ → ℕ → Rk → Rk
-gone_with ControlReset word turn delay rk = rk_reset rk
-gone_with _ word turn delay rk = begun_function word turn delay rk
+abbrev pub gone_with : Function → ControlWrite → Rk → Rk
+gone_with ControlReset write rk = rk_reset rk
+gone_with _ write rk = begun_function write rk
 
 -- a word written to RKCS while ready, without go or with it [6.37] [6.69]
-abbrev pub rk_commanded : ℕ → ℕ → ℕ → Rk → Rk
-rk_commanded word turn delay rk =
-    if is_set rkcs_go word then gone_with (function_of (field 1 3 word)) word turn delay rk
-    else record (with_command word rk) { ready_enable = enable_written word rk.ready_enable }
+abbrev pub rk_commanded : ControlWrite → Rk → Rk
+rk_commanded write rk =
+    if is_set rkcs_go write.word then gone_with (function_of (field 1 3 write.word)) write rk
+    else record (with_command write.word rk) {
+      ready_enable = enable_written write.word rk.ready_enable;
+    }
 
 -- a word written to RKCS; while not ready it sets or clears enable alone [6.68]
-abbrev pub control_written : ℕ → ℕ → ℕ → Rk → Rk
-control_written word turn delay rk =
-    if rk.ready_enable.ready then rk_commanded word turn delay rk else record rk {
-      ready_enable =
-          enable_written word rk.ready_enable;
+abbrev pub control_written : ControlWrite → Rk → Rk
+control_written write rk =
+    if rk.ready_enable.ready then rk_commanded write rk else record rk {
+      ready_enable = enable_written write.word rk.ready_enable;
     }
 
 -- what is written while ready alone
@@ -192,7 +194,8 @@ while_ready written rk = if rk.ready_enable.ready then written else rk
 unfoldable pub rk_written : RkRegister → ℕ → ℕ → ℕ → Rk → Rk
 rk_written DriveStatus word turn delay rk = rk
 rk_written Error word turn delay rk = rk
-rk_written Control word turn delay rk = control_written word turn delay rk
+rk_written Control word turn delay rk =
+    control_written (record { word = word; turn = turn; delay = delay }) rk
 rk_written WordCount word turn delay rk = while_ready (record rk { word_count = word }) rk
 rk_written BusAddress word turn delay rk =
     while_ready (record rk { address = field 16 2 rk.address * address_bit_16 + word }) rk

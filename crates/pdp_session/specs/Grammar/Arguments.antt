@@ -7,9 +7,10 @@ use Rattle.pdp_word.specs.Number.{number_of}
 use Rattle.pdp_word.specs.Size.{span}
 use Rattle.pdp_kt11.specs.declared.mode.Mode.{Mode}
 use Rattle.pdp_kt11.specs.declared.mode.Mode.TheVariants.{Kernel, User}
-use Rattle.pdp_unibus.specs.declared.delays.DelayedDevice.{DelayedDevice}
-use Rattle.pdp_unibus.specs.declared.delays.DelayedDevice.TheVariants.{Printer, Reader, Punch, Disk}
-use Rattle.pdp_unibus.specs.declared.delays.DelayedDevice.TheVariants.{Clock}
+use Rattle.pdp_io_page.specs.declared.delays.DelayedDevice.{DelayedDevice}
+use Rattle.pdp_io_page.specs.declared.delays.DelayedDevice.TheVariants.{Printer, Reader, Punch}
+use Rattle.pdp_io_page.specs.declared.delays.DelayedDevice.TheVariants.{Disk}
+use Rattle.pdp_io_page.specs.declared.delays.DelayedDevice.TheVariants.{Clock}
 use Rattle.pdp_word.specs.declared.size.Size.TheVariants.{Word, Byte}
 use Rattle.pdp_session.specs.declared.version.Version.{Version}
 use Rattle.pdp_session.specs.declared.version.Version.TheVariants.{One, Two}

@@ -9,12 +9,13 @@ use Rattle.pdp_tape.specs.Reader.{takes_byte}
 use Rattle.pdp_rk11.specs.Handbook.Completion.{rk_completed}
 use Rattle.pdp_rk11.specs.Trace.{completion_touches}
 use Rattle.pdp_store.specs.FirstTouches.{first_touches_after}
+use Rattle.pdp_io_page.specs.Handbook.Delays.{is_tick}
 use Rattle.pdp_unibus.specs.Handbook.BusWorld.{BusWorld, disk_world_of, with_io_page}
 use Rattle.pdp_unibus.specs.Handbook.BusWorld.{with_disk_world}
 use Rattle.pdp_unibus.specs.Handbook.BusWorld.{with_first_touches}
 use Rattle.pdp_unibus.specs.Handbook.Tape.{next_byte, read_on}
 use Rattle.pdp_unibus.specs.declared.beginning.Output.{Output}
-use Rattle.pdp_unibus.specs.declared.io_page.IoPage.{IoPage}
+use Rattle.pdp_io_page.specs.declared.io_page.IoPage.{IoPage}
 use Rattle.pdp_unibus.specs.declared.event.Event.{Event}
 use Rattle.pdp_unibus.specs.declared.event.Event.TheVariants.{Key, Tick, PrinterDone, ReaderDone}
 use Rattle.pdp_unibus.specs.declared.event.Event.TheVariants.{PunchDone, DiskDone, Switches}
@@ -116,11 +117,6 @@ after_event Continue p = p
 abbrev pub after_events : List Event → Progress → Progress
 after_events [] p = p
 after_events (e ∷ es) p = after_events es (after_event e p)
-
--- whether the clock ticks by itself in turn t: in the positive multiples of its period, if that is
--- above 0 [8.1]
-abbrev pub is_tick : ℕ → ℕ → Bool
-is_tick t period = nat_lt 0 period && nat_lt 0 t && t % period == 0
 
 -- a step that takes place if its cause holds
 abbrev pub where_due : Bool → (Progress → Progress) → Progress → Progress

@@ -1,23 +1,16 @@
--- The bus and what is on it: PDP-11 Peripherals Handbook, Unibus (power-up, stamps and what RESET
--- leaves are [P]).
-use Rattle.std.specs.Prelude.{ℕ, Bool, List, Option, false}
-use Rattle.pdp_console.specs.Kl.{kl_reset, init_kl}
-use Rattle.pdp_console.specs.Kw.{init_kw}
+-- The bus and what is on it: PDP-11 Peripherals Handbook, Unibus (power-up and stamps are [P]).
+use Rattle.std.specs.Prelude.{ℕ, Bool, List, Option}
 use Rattle.pdp_device.specs.Operation.{is_under_way}
-use Rattle.pdp_tape.specs.Pc11.{pc11_reset, init_pc11}
 use Rattle.pdp_rk11.specs.Handbook.Completion.{DiskWorld, disk_world}
-use Rattle.pdp_rk11.specs.Handbook.Rk.{init_rk, rk_reset}
-use Rattle.pdp_kt11.specs.Handbook.Kt.{kt_reset, powered_kt}
 use Rattle.pdp_kt11.specs.declared.kt.Kt.{Kt}
-use Rattle.pdp_kt11.specs.declared.mode.Mode.TheVariants.{Kernel}
 use Rattle.pdp_store.specs.CycleLogs.{KeptCycles, no_log}
 use Rattle.pdp_store.specs.FirstTouches.{FirstTouches, no_first_touches}
 use Rattle.pdp_store.specs.declared.Stamp.{Stamp}
 use Rattle.pdp_word.specs.declared.codes.Codes.{Codes}
-use Rattle.pdp_unibus.specs.declared.io_page.IoPage.{IoPage}
-use Rattle.pdp_unibus.specs.declared.delays.Delays.{Delays}
-use Rattle.pdp_unibus.specs.declared.priority.Priority.TheVariants.{Level0}
-use Rattle.pdp_unibus.specs.declared.status.Status.{Status}
+use Rattle.pdp_io_page.specs.Handbook.Reset.{io_page_at_power_up}
+use Rattle.pdp_io_page.specs.declared.io_page.IoPage.{IoPage}
+use Rattle.pdp_io_page.specs.declared.delays.Delays.{Delays}
+use Rattle.pdp_io_page.specs.declared.status.Status.{Status}
 
 -- the bus and all that is on it, as a contract sees it
 pub record BusWorld : Type 0 where
@@ -40,26 +33,6 @@ pub record BusWorld : Type 0 where
   pub first_touches : FirstTouches
   -- the log of the processor's cycles
   pub log : KeptCycles
-
--- the I/O page as of power-up: every bit of the program status word, of the mapping registers and
--- of the switches 0, the devices as after RESET [7.2] [7.4] [7.7]
-abbrev pub io_page_at_power_up : Delays → IoPage
-io_page_at_power_up delays = record {
-  status = record {
-    mode = Kernel;
-    previous = Kernel;
-    priority = Level0;
-    trace_bit = false;
-    codes = record { n = false; z = false; v = false; c = false };
-  };
-  mapping = powered_kt;
-  console = init_kl;
-  clock = init_kw;
-  paper_tape = init_pc11;
-  disk = init_rk;
-  delays = delays;
-  switches = 0;
-}
 
 -- the bus as of power-up, over this core, these drives and this tape, with no first touches and no
 -- log [7.8]
@@ -120,15 +93,4 @@ with_disk_world w d = record w {
   core = d.core;
   stamps = d.stamps;
   drives = d.drives;
-}
-
--- RESET: each device is initialised, and SR0 is cleared, so mapping is off; the program status, the
--- pages, SR2, the delays and the switches stay [6.108]
-unfoldable pub io_page_reset : IoPage → IoPage
-io_page_reset b = record b {
-  mapping = kt_reset b.mapping;
-  console = kl_reset b.console;
-  clock = init_kw;
-  paper_tape = pc11_reset b.paper_tape;
-  disk = rk_reset b.disk;
 }

@@ -14,11 +14,11 @@ use Rattle.pdp_store.specs.declared.part.Part.TheVariants as part
 use Rattle.pdp_store.specs.declared.Agent.TheVariants.{Cpu}
 use Rattle.pdp_store.specs.declared.Stamp.{Stamp}
 use Rattle.pdp_unibus.specs.Handbook.BusWorld.{BusWorld, with_io_page, with_log}
-use Rattle.pdp_unibus.specs.Handbook.Register.{register_at, value_in, after_read, after_write}
-use Rattle.pdp_unibus.specs.Handbook.Register.{after_byte}
-use Rattle.pdp_unibus.specs.Handbook.Register.{word_with_byte}
-use Rattle.pdp_unibus.specs.declared.register.Register.{Register}
-use Rattle.pdp_unibus.specs.declared.io_page.IoPage.{IoPage}
+use Rattle.pdp_io_page.specs.Handbook.Register.{register_at, value_in, after_read, after_write}
+use Rattle.pdp_io_page.specs.Handbook.Register.{after_byte}
+use Rattle.pdp_io_page.specs.Handbook.Register.{word_with_byte}
+use Rattle.pdp_io_page.specs.declared.register.Register.{Register}
+use Rattle.pdp_io_page.specs.declared.io_page.IoPage.{IoPage}
 use Rattle.pdp_unibus.specs.declared.bus.Timeout.{Timeout}
 
 -- one bus cycle: what the master asks for, at a physical byte address
@@ -77,14 +77,17 @@ core_read w k = record w {
   log = log_with (told_read (k * 2) (Some (slice_index w.core k))) w.log;
 }
 
--- and after a write by which word k is this one: it touches the page too
-abbrev pub core_stored : BusWorld → ℕ → ℕ → BusCycle → BusWorld
-core_stored w k word told = record w {
+-- and after word k became this one: that touches the page too
+abbrev pub core_put : BusWorld → ℕ → ℕ → BusWorld
+core_put w k word = record w {
   core = slice_set w.core k word;
   stamps = slice_set w.stamps k (Some (stamp_of_cycle w));
   first_touches = word_touched part.Core k w.turn w.first_touches;
-  log = log_with told w.log;
 }
+
+-- a write by which word k is this one, with what the log is told of it
+abbrev pub core_stored : BusWorld → ℕ → ℕ → BusCycle → BusWorld
+core_stored w k word told = telling told (core_put w k word)
 
 -- a write of the word, and of the byte at this physical address
 abbrev pub core_written : BusWorld → ℕ → ℕ → BusWorld

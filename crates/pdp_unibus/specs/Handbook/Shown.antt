@@ -15,13 +15,13 @@ use Rattle.pdp_rk11.specs.declared.register.RkRegister.TheVariants.{DiskAddress}
 use Rattle.pdp_tape.specs.declared.pc11.Pc11Register.TheVariants.{ReaderStatus, ReaderBuffer}
 use Rattle.pdp_tape.specs.declared.pc11.Pc11Register.TheVariants.{PunchStatus}
 use Rattle.pdp_unibus.specs.Handbook.BusWorld.{BusWorld}
-use Rattle.pdp_unibus.specs.Handbook.Register.{value_in}
-use Rattle.pdp_unibus.specs.declared.io_page.IoPage.{IoPage}
+use Rattle.pdp_io_page.specs.Handbook.Register.{value_in}
+use Rattle.pdp_io_page.specs.declared.io_page.IoPage.{IoPage}
 use Rattle.pdp_unibus.specs.declared.show.device_registers.DeviceRegisters.{DeviceRegisters}
 use Rattle.pdp_unibus.specs.declared.show.page_registers.PageRegisters.{PageRegisters}
-use Rattle.pdp_unibus.specs.declared.register.Register.{Register}
-use Rattle.pdp_unibus.specs.declared.register.Register.TheVariants.{Clock, Console, Disk, Mapping}
-use Rattle.pdp_unibus.specs.declared.register.Register.TheVariants.{PaperTape, Switches}
+use Rattle.pdp_io_page.specs.declared.register.Register.{Register}
+use Rattle.pdp_io_page.specs.declared.register.Register.TheVariants.{Clock, Console, Disk, Mapping}
+use Rattle.pdp_io_page.specs.declared.register.Register.TheVariants.{PaperTape, Switches}
 
 -- the registers of the devices that are shown, in their order, each after its name
 abbrev pub shown_registers : List (List ℕ × Register)

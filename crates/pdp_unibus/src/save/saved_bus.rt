@@ -8,10 +8,8 @@ ghost use Rattle.pdp_unibus.specs.SavedBusData.{saved_bus_with_core, saved_bus_w
 ghost use Rattle.pdp_unibus.specs.SavedBusData.{bus_with_tape};
 
 use crate::bus::Bus;
-use crate::delays::Delays;
-use crate::io_page::IoPage;
 use crate::save::saved_drives::{load_each, take_each};
-use crate::watch::Watch;
+use pdp_io_page::{Delays, IoPage, Watch};
 use pdp_store::{Page, Paged, PagedDrive, Pages, Store};
 use pdp_word::NoMemory;
 use std::alloc::Global;

@@ -2,8 +2,8 @@ ghost use Rattle.std.specs.Prelude.{◌≡◌, ◌≤◌, ◌<◌, length, map, 
 ghost use Rattle.pdp_unibus.specs.Handbook.Shown.{devices_of, shown_names, shown_registers};
 
 use crate::bus::Bus;
-use crate::register::Register;
 use pdp_console::KlRegister;
+use pdp_io_page::Register;
 use pdp_rk11::{Rk, RkRegister};
 use pdp_store::Store;
 use pdp_tape::Pc11Register;

@@ -1,11 +1,11 @@
 ghost use Rattle.std.specs.Prelude.{◌≡◌, length};
 ghost use Rattle.pdp_kt11.specs.declared.register.KtRegister.TheVariants.{Address, Descriptor};
-ghost use Rattle.pdp_unibus.specs.Handbook.Register.{value_in};
+ghost use Rattle.pdp_io_page.specs.Handbook.Register.{value_in};
 ghost use Rattle.pdp_unibus.specs.Handbook.Shown.{of_each_page, page_registers_of};
-ghost use Rattle.pdp_unibus.specs.declared.register.Register.TheVariants.{Mapping};
+ghost use Rattle.pdp_io_page.specs.declared.register.Register.TheVariants.{Mapping};
 
 use crate::bus::Bus;
-use crate::register::Register;
+use pdp_io_page::Register;
 use pdp_kt11::{KtRegister, MappingRegisters, PageNumber, Space};
 use pdp_store::Store;
 

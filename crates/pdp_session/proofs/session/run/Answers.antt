@@ -2,7 +2,7 @@ use Rattle.std.proofs.Common.{◌≡◌, true, false, [], arith, rules, sym, ap,
 use Rattle.std.proofs.lemmas.Result.{err_from_is_err_and}
 use Rattle.pdp_script.specs.declared.faults.Fault.TheVariants.{Input, Output}
 use Rattle.pdp_replay.specs.Past.Setup.{given_setup, setup_checked}
-use Rattle.pdp_replay.specs.Timeline.{fresh}
+use Rattle.pdp_replay.specs.Timeline.{new_timeline}
 use Rattle.pdp_session.specs.Session.{is_told_first}
 use Rattle.pdp_session.proofs.SessionEnds.{ends_begun, ends_refused, start_refuses, starts_with}
 use Rattle.pdp_session.proofs.session.run.Goals as goal
@@ -11,7 +11,7 @@ pub returns-in_err-engine-clause-input : goal.returns-in_err-engine-clause-input
 returns-in_err-engine-clause-input g c = λ failed.
     let refused = c.in_err-engine.field-0.0 in
     let (told, is, same) = err_from_is_err_and c.from_residual.result c.from_residual.ensures.1 in
-    let of_start : is_told_first refused ≡ true = start_refuses fresh _ refused _ c.in_err-engine.ensures.engine in
+    let of_start : is_told_first refused ≡ true = start_refuses new_timeline _ refused _ c.in_err-engine.ensures.engine in
     let fault : refused ≡ Input = cc in
     let never : false ≡ true = sym (ap is_told_first fault) ∙ of_start in
     cc
@@ -20,7 +20,7 @@ pub returns-in_err-engine-clause-output : goal.returns-in_err-engine-clause-outp
 returns-in_err-engine-clause-output g c = λ failed.
     let refused = c.in_err-engine.field-0.0 in
     let (told, is, same) = err_from_is_err_and c.from_residual.result c.from_residual.ensures.1 in
-    let of_start : is_told_first refused ≡ true = start_refuses fresh _ refused _ c.in_err-engine.ensures.engine in
+    let of_start : is_told_first refused ≡ true = start_refuses new_timeline _ refused _ c.in_err-engine.ensures.engine in
     let fault : refused ≡ Output = cc in
     let never : false ≡ true = sym (ap is_told_first fault) ∙ of_start in
     cc

@@ -4,8 +4,8 @@ use Rattle.pdp_replay.specs.Past.Setup.{given_setup}
 use Rattle.pdp_replay.specs.declared.past.base_setup.DriveCount.TheVariants.{One}
 use Rattle.pdp_replay.proofs.engine.Engine.new.Goals as goal
 
-pub power-requires-clause-good : goal.power-requires-clause-good
-power-requires-clause-good c = good_is (given_setup c.args.setup) c.in_ok-check.ensures
+pub at_power_up-requires-clause-good : goal.at_power_up-requires-clause-good
+at_power_up-requires-clause-good c = good_is (given_setup c.args.setup) c.in_ok-check.ensures
 
 pub invariant_of-result : goal.invariant_of-result
 invariant_of-result c =

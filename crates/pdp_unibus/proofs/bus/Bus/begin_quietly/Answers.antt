@@ -1,4 +1,4 @@
-use Rattle.pdp_unibus.proofs.Watching.{quietly_begun}
+use Rattle.pdp_unibus.proofs.QuietBeginnings.{quietly_begun}
 use Rattle.pdp_unibus.proofs.bus.Bus.begin_quietly.Goals as goal
 
 -- src/beginning.rt

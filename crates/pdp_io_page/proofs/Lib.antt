@@ -1,0 +1,4 @@
+pub mod RequestLaws
+pub mod Rules
+pub mod StatusLaws
+pub mod Watching
