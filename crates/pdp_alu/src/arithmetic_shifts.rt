@@ -57,7 +57,7 @@ fn shift(sign: u32, number: u32, source: u16) -> Shifting
     }
 }
 
-/// So many places to the left.
+/// Shifts to the left by `count` places.
 fn shift_left(sign: u32, number: u32, count: u16) -> Shifting
     requires sign { sign ≤ 2 ^ 31 }
     requires number { number < 2 * sign }
@@ -71,7 +71,7 @@ fn shift_left(sign: u32, number: u32, count: u16) -> Shifting
     shifting
 }
 
-/// So many places to the right.
+/// Shifts to the right by `count` places.
 fn shift_right(sign: u32, number: u32, count: u16) -> Shifting
     requires sign { sign ≤ 2 ^ 31 }
     requires number { number < 2 * sign }

@@ -8,3 +8,4 @@ pub mod Meanings
 pub mod Standing
 pub mod DecodedFormats
 pub mod Instructions
+pub mod FittingFields

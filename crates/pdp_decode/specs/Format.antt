@@ -5,8 +5,7 @@ use Rattle.std.specs.Int.{w8, cast_unsigned}
 use Rattle.std.specs.Int.RustNames.{FitsSigned}
 use Rattle.pdp_word.specs.Bits.{bit_of}
 use Rattle.pdp_word.specs.declared.codes.Codes.{Codes}
-use Rattle.pdp_decode.specs.Fields.{mode_number, register_number}
-use Rattle.pdp_decode.specs.Instruction.{FieldsFit}
+use Rattle.pdp_decode.specs.Fields.{RegisterFits, mode_number, register_number}
 use Rattle.pdp_decode.specs.declared.instruction.Specifier.{Specifier}
 use Rattle.pdp_decode.specs.declared.instruction.Instr.{Instr}
 use Rattle.pdp_decode.specs.declared.instruction.Instr.TheVariants.{Halt, Wait, Rti, Bpt, Iot}
@@ -130,8 +129,16 @@ encode (Mfpi source) = single_operand_word 0o0065 source
 encode (Mtpi destination) = single_operand_word 0o0066 destination
 encode Reserved = 0o177777
 
--- the instruction has a word: each field fits
+-- the instruction has a word: each field fits its bits. A register is below 8, a count of words
+-- below 100, a code below 400, and an offset from -200 to 177; without such a field it always fits
 abbrev pub IsEncodable : Instr → Type 0
+IsEncodable (Jmp destination) = RegisterFits destination
+IsEncodable (Rts register) = register < 8
+IsEncodable (Jsr register destination) = (register < 8) × RegisterFits destination
+IsEncodable (Mark words) = words < 0o100
+IsEncodable (Sob register words) = (register < 8) × (words < 0o100)
+IsEncodable (Emt code) = code < 0o400
+IsEncodable (Trap code) = code < 0o400
 IsEncodable (Br offset) = FitsSigned w8 offset
 IsEncodable (Bne offset) = FitsSigned w8 offset
 IsEncodable (Beq offset) = FitsSigned w8 offset
@@ -147,9 +154,52 @@ IsEncodable (Bvc offset) = FitsSigned w8 offset
 IsEncodable (Bvs offset) = FitsSigned w8 offset
 IsEncodable (Bcc offset) = FitsSigned w8 offset
 IsEncodable (Bcs offset) = FitsSigned w8 offset
-IsEncodable (Emt code) = code < 0o400
-IsEncodable (Trap code) = code < 0o400
-IsEncodable instr = FieldsFit instr
+IsEncodable (Mov source destination) = RegisterFits source × RegisterFits destination
+IsEncodable (Movb source destination) = RegisterFits source × RegisterFits destination
+IsEncodable (Cmp source destination) = RegisterFits source × RegisterFits destination
+IsEncodable (Cmpb source destination) = RegisterFits source × RegisterFits destination
+IsEncodable (Bit source destination) = RegisterFits source × RegisterFits destination
+IsEncodable (Bitb source destination) = RegisterFits source × RegisterFits destination
+IsEncodable (Bic source destination) = RegisterFits source × RegisterFits destination
+IsEncodable (Bicb source destination) = RegisterFits source × RegisterFits destination
+IsEncodable (Bis source destination) = RegisterFits source × RegisterFits destination
+IsEncodable (Bisb source destination) = RegisterFits source × RegisterFits destination
+IsEncodable (Add source destination) = RegisterFits source × RegisterFits destination
+IsEncodable (Sub source destination) = RegisterFits source × RegisterFits destination
+IsEncodable (Xor register destination) = (register < 8) × RegisterFits destination
+IsEncodable (Mul register source) = (register < 8) × RegisterFits source
+IsEncodable (Div register source) = (register < 8) × RegisterFits source
+IsEncodable (Ash register source) = (register < 8) × RegisterFits source
+IsEncodable (Ashc register source) = (register < 8) × RegisterFits source
+IsEncodable (Swab destination) = RegisterFits destination
+IsEncodable (Clr destination) = RegisterFits destination
+IsEncodable (Clrb destination) = RegisterFits destination
+IsEncodable (Com destination) = RegisterFits destination
+IsEncodable (Comb destination) = RegisterFits destination
+IsEncodable (Inc destination) = RegisterFits destination
+IsEncodable (Incb destination) = RegisterFits destination
+IsEncodable (Dec destination) = RegisterFits destination
+IsEncodable (Decb destination) = RegisterFits destination
+IsEncodable (Neg destination) = RegisterFits destination
+IsEncodable (Negb destination) = RegisterFits destination
+IsEncodable (Adc destination) = RegisterFits destination
+IsEncodable (Adcb destination) = RegisterFits destination
+IsEncodable (Sbc destination) = RegisterFits destination
+IsEncodable (Sbcb destination) = RegisterFits destination
+IsEncodable (Ror destination) = RegisterFits destination
+IsEncodable (Rorb destination) = RegisterFits destination
+IsEncodable (Rol destination) = RegisterFits destination
+IsEncodable (Rolb destination) = RegisterFits destination
+IsEncodable (Asr destination) = RegisterFits destination
+IsEncodable (Asrb destination) = RegisterFits destination
+IsEncodable (Asl destination) = RegisterFits destination
+IsEncodable (Aslb destination) = RegisterFits destination
+IsEncodable (Sxt destination) = RegisterFits destination
+IsEncodable (Tst destination) = RegisterFits destination
+IsEncodable (Tstb destination) = RegisterFits destination
+IsEncodable (Mfpi source) = RegisterFits source
+IsEncodable (Mtpi destination) = RegisterFits destination
+IsEncodable _ = Unit {0}
 
 -- the instruction is reserved, or this is its word
 abbrev pub IsOfWord : Instr → ℕ → Type 0

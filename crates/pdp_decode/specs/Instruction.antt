@@ -1,7 +1,5 @@
--- What is said of an instruction: its mnemonic, and which fields it may have (DEC PDP-11/40
--- Processor Handbook (1972), Instruction set).
-use Rattle.std.specs.Prelude.{ℕ, List, codes, ◌<◌}
-use Rattle.pdp_decode.specs.Fields.{RegisterFits}
+-- The mnemonic of an instruction (DEC PDP-11/40 Processor Handbook (1972), Instruction set).
+use Rattle.std.specs.Prelude.{ℕ, List, codes}
 use Rattle.pdp_decode.specs.declared.instruction.Instr.{Instr}
 use Rattle.pdp_decode.specs.declared.instruction.Instr.TheVariants.{Halt, Wait, Rti, Bpt, Iot}
 use Rattle.pdp_decode.specs.declared.instruction.Instr.TheVariants.{Reset, Rtt, Jmp, Rts, Jsr, Mark}
@@ -98,58 +96,3 @@ mnemonic (Tstb _) = codes "TSTB"
 mnemonic (Mfpi _) = codes "MFPI"
 mnemonic (Mtpi _) = codes "MTPI"
 mnemonic Reserved = codes "Reserved"
-
--- the fields of an instruction fit their bits: registers are below 8, and a count of words below
--- 100; what has no such field fits always
-abbrev pub FieldsFit : Instr → Type 0
-FieldsFit (Jmp destination) = RegisterFits destination
-FieldsFit (Rts register) = register < 8
-FieldsFit (Jsr register destination) = (register < 8) × RegisterFits destination
-FieldsFit (Mark words) = words < 0o100
-FieldsFit (Sob register words) = (register < 8) × (words < 0o100)
-FieldsFit (Mov source destination) = RegisterFits source × RegisterFits destination
-FieldsFit (Movb source destination) = RegisterFits source × RegisterFits destination
-FieldsFit (Cmp source destination) = RegisterFits source × RegisterFits destination
-FieldsFit (Cmpb source destination) = RegisterFits source × RegisterFits destination
-FieldsFit (Bit source destination) = RegisterFits source × RegisterFits destination
-FieldsFit (Bitb source destination) = RegisterFits source × RegisterFits destination
-FieldsFit (Bic source destination) = RegisterFits source × RegisterFits destination
-FieldsFit (Bicb source destination) = RegisterFits source × RegisterFits destination
-FieldsFit (Bis source destination) = RegisterFits source × RegisterFits destination
-FieldsFit (Bisb source destination) = RegisterFits source × RegisterFits destination
-FieldsFit (Add source destination) = RegisterFits source × RegisterFits destination
-FieldsFit (Sub source destination) = RegisterFits source × RegisterFits destination
-FieldsFit (Xor register destination) = (register < 8) × RegisterFits destination
-FieldsFit (Mul register source) = (register < 8) × RegisterFits source
-FieldsFit (Div register source) = (register < 8) × RegisterFits source
-FieldsFit (Ash register source) = (register < 8) × RegisterFits source
-FieldsFit (Ashc register source) = (register < 8) × RegisterFits source
-FieldsFit (Swab destination) = RegisterFits destination
-FieldsFit (Clr destination) = RegisterFits destination
-FieldsFit (Clrb destination) = RegisterFits destination
-FieldsFit (Com destination) = RegisterFits destination
-FieldsFit (Comb destination) = RegisterFits destination
-FieldsFit (Inc destination) = RegisterFits destination
-FieldsFit (Incb destination) = RegisterFits destination
-FieldsFit (Dec destination) = RegisterFits destination
-FieldsFit (Decb destination) = RegisterFits destination
-FieldsFit (Neg destination) = RegisterFits destination
-FieldsFit (Negb destination) = RegisterFits destination
-FieldsFit (Adc destination) = RegisterFits destination
-FieldsFit (Adcb destination) = RegisterFits destination
-FieldsFit (Sbc destination) = RegisterFits destination
-FieldsFit (Sbcb destination) = RegisterFits destination
-FieldsFit (Ror destination) = RegisterFits destination
-FieldsFit (Rorb destination) = RegisterFits destination
-FieldsFit (Rol destination) = RegisterFits destination
-FieldsFit (Rolb destination) = RegisterFits destination
-FieldsFit (Asr destination) = RegisterFits destination
-FieldsFit (Asrb destination) = RegisterFits destination
-FieldsFit (Asl destination) = RegisterFits destination
-FieldsFit (Aslb destination) = RegisterFits destination
-FieldsFit (Sxt destination) = RegisterFits destination
-FieldsFit (Tst destination) = RegisterFits destination
-FieldsFit (Tstb destination) = RegisterFits destination
-FieldsFit (Mfpi source) = RegisterFits source
-FieldsFit (Mtpi destination) = RegisterFits destination
-FieldsFit _ = Unit {0}

@@ -1,6 +1,5 @@
 // Decoding, a function for each section of the opcode table.
 ghost use Rattle.std.specs.Prelude.{◌≡◌};
-ghost use Rattle.pdp_decode.specs.Instruction.{FieldsFit};
 ghost use Rattle.pdp_decode.specs.Table.{instr_of_word};
 
 mod branches;
@@ -17,15 +16,14 @@ use single_operand::{byte_single_operand_instr, single_operand_instr};
 
 /// The instruction that a word means; `Reserved` if no row of the opcode table takes the word.
 ///
-/// Every specifier in the result has a mode and a register below 8, every register is below 8, and
-/// the words of MARK and SOB are below 100 (octal).
+/// Every register in the result is below 8, and the words of MARK and SOB are below 100 (octal):
+/// [`crate::decoded_instructions_have_a_word`].
 ///
 /// Source: DEC PDP-11/40 Processor Handbook (1972), Instruction set; what is reserved: [4.66].
 #[inline(always)]
 #[tactic(auto, unfolding(crate::specs::Table::instr_of_word))]
 pub const fn decode(word: u16) -> Instr
-    ensures value { result ≡ instr_of_word word }
-    ensures valid { FieldsFit result }
+    ensures { result ≡ instr_of_word word }
 {
     match word {
         0o000000..=0o000377 => control_instr(word),

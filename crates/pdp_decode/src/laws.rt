@@ -15,6 +15,15 @@ pub fn decoded_instructions_have_their_word()
     ensures { (word : ℕ) → IsOfWord (instr_of_word word) word }
 {}
 
+/// A law and no code: the fields of each instruction that a word decodes to fit their bits, so it
+/// has a word.
+///
+/// Source: DEC PDP-11/40 Processor Handbook (1972), Instruction set.
+#[tactic(auto, using(crate::proofs::FittingFields::decoded_fits))]
+pub fn decoded_instructions_have_a_word()
+    ensures { (word : ℕ) → IsEncodable (instr_of_word word) }
+{}
+
 /// A law and no code: the word of each instruction whose fields fit decodes to that instruction.
 ///
 /// Source: DEC PDP-11/40 Processor Handbook (1972), Instruction set.

@@ -3,8 +3,8 @@
 //!
 //! # What is proved
 //!
-//! - Each word is the instruction of its row in the table, with fields in their ranges, or
-//!   `Reserved` if no row takes it (`decode`).
+//! - Each word is the instruction of its row in the table, or `Reserved` if no row takes it
+//!   (`decode`); its fields are in their ranges (`decoded_instructions_have_a_word`).
 //! - Decoding and the instruction formats undo each other, except for reserved words
 //!   (`decoded_instructions_have_their_word`, `encoded_instructions_decode_back`).
 //! - No two rows of the table meet (`rows_never_meet`, `sections_are_one_table`).
@@ -24,6 +24,6 @@ mod laws;
 pub use decoding::decode;
 pub use instruction::{Instr, Specifier, name_of};
 pub use laws::{
-    decoded_instructions_have_their_word, encoded_instructions_decode_back, rows_never_meet,
-    sections_are_one_table,
+    decoded_instructions_have_a_word, decoded_instructions_have_their_word,
+    encoded_instructions_decode_back, rows_never_meet, sections_are_one_table,
 };

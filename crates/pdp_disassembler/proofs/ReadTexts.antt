@@ -6,7 +6,7 @@ use Rattle.pdp_decode.specs.Fields.{RegisterFits}
 use Rattle.pdp_decode.specs.Format.{IsEncodable, IsOfWord, digits_of, encode}
 use Rattle.pdp_decode.specs.Table.{instr_of_word}
 use Rattle.pdp_decode.proofs.Meanings.{decoded_has_word}
-use Rattle.pdp_disassembler.proofs.FittingFields.{decoded_fits}
+use Rattle.pdp_decode.proofs.FittingFields.{decoded_fits}
 use Rattle.pdp_decode.specs.declared.instruction.Specifier.{Specifier}
 use Rattle.pdp_decode.specs.declared.instruction.Instr.{Instr}
 use Rattle.pdp_decode.specs.declared.instruction.Instr.TheVariants.{Halt, Wait, Rti, Bpt, Iot, Reset, Rtt, Jmp, Rts, Jsr, Mark, Sob, Emt, Trap, ClearCodes, SetCodes, Br, Bne, Beq, Bge, Blt, Bgt, Ble, Bpl, Bmi, Bhi, Blos, Bvc, Bvs, Bcc, Bcs, Mov, Movb, Cmp, Cmpb, Bit, Bitb, Bic, Bicb, Bis, Bisb, Add, Sub, Xor, Mul, Div, Ash, Ashc, Swab, Clr, Clrb, Com, Comb, Inc, Incb, Dec, Decb, Neg, Negb, Adc, Adcb, Sbc, Sbcb, Ror, Rorb, Rol, Rolb, Asr, Asrb, Asl, Aslb, Sxt, Tst, Tstb, Mfpi, Mtpi, Reserved}

@@ -1,9 +1,8 @@
 -- The operands of an instruction as its text has them, and how many words they take
 -- (DEC PDP-11/40 Processor Handbook (1972), Instruction set and Addressing modes).
-use Rattle.std.specs.Prelude.{ℕ, Bool, true, false, ◌+◌, ◌<◌, ◌&&◌, ◌||◌, ◌==◌, not}
+use Rattle.std.specs.Prelude.{ℕ, Bool, true, false, ◌+◌, ◌||◌, ◌==◌, not}
 use Rattle.std.specs.Prelude.{if◌then◌else◌}
 use Rattle.pdp_word.specs.declared.codes.Codes.{Codes}
-use Rattle.pdp_decode.specs.Fields.{RegisterFits}
 use Rattle.pdp_decode.specs.declared.instruction.Specifier.{Specifier}
 use Rattle.pdp_decode.specs.declared.instruction.Specifier.TheVariants as specifier
 use Rattle.pdp_decode.specs.declared.instruction.Instr.{Instr}
@@ -136,13 +135,3 @@ words_that_follow (RegisterLast operand register) = words_of_operand operand
 words_that_follow (Double source destination) =
     words_of_operand source + words_of_operand destination
 words_that_follow _ = 0
-
--- registers are below 8
-abbrev pub OperandsFit : Operands → Type 0
-OperandsFit (Register register) = register < 8
-OperandsFit (Loop register words) = register < 8
-OperandsFit (Single operand) = RegisterFits operand
-OperandsFit (RegisterFirst register operand) = (register < 8) × RegisterFits operand
-OperandsFit (RegisterLast operand register) = RegisterFits operand × (register < 8)
-OperandsFit (Double source destination) = RegisterFits source × RegisterFits destination
-OperandsFit _ = Unit {0}

@@ -35,12 +35,16 @@ digit_count number =
 unfoldable pub octal_text : ℕ → List ℕ
 octal_text number = octal_digits (digit_count number) number
 
--- R0 to R5, SP and PC
 unfoldable pub register_name : ℕ → List ℕ
 register_name register =
-    if register == 6 then codes "SP"
-    else if register == 7 then codes "PC"
-    else codes "R" ++ (48 + register) ∷ []
+    if register == 0 then codes "R0"
+    else if register == 1 then codes "R1"
+    else if register == 2 then codes "R2"
+    else if register == 3 then codes "R3"
+    else if register == 4 then codes "R4"
+    else if register == 5 then codes "R5"
+    else if register == 6 then codes "SP"
+    else codes "PC"
 
 -- an address so many bytes on, modulo 200000
 abbrev pub further : ℕ → ℕ → ℕ

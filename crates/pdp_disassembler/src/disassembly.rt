@@ -1,7 +1,5 @@
 // The instruction at an address.
 ghost use Rattle.std.specs.Prelude.{◌≡◌, ◌+◌, ◌≤◌, ◌++◌, length, slice_index};
-ghost use Rattle.pdp_decode.specs.Fields.{RegisterFits};
-ghost use Rattle.pdp_disassembler.specs.Operands.{OperandsFit};
 ghost use Rattle.pdp_disassembler.specs.Text.{branch_target, instruction_text, loop_target};
 ghost use Rattle.pdp_disassembler.specs.Text.{operands_text, second_text, word_count};
 
@@ -52,8 +50,7 @@ pub fn disassemble(address: u16, words: [u16; 3]) -> Disassembly
 /// Adds the operands of the instruction at `address`, and the space before them.
 #[tactic(auto, unfolding(crate::specs::Text::operands_text))]
 fn add_operands(text: &mut InstructionText, address: u16, words: [u16; 3], operands: Operands)
-    requires valid { OperandsFit operands }
-    requires room { length text.old.items ≤ 11 }
+    requires { length text.old.items ≤ 11 }
     ensures { text.new.items ≡ text.old.items ++ operands_text address
         (slice_index words 0) (slice_index words 1) (slice_index words 2) operands }
 {
@@ -104,8 +101,7 @@ fn add_second(
     first: Specifier,
     second: Specifier,
 )
-    requires valid { RegisterFits second }
-    requires room { length text.old.items + 11 ≤ LONGEST_TEXT }
+    requires { length text.old.items + 11 ≤ LONGEST_TEXT }
     ensures { text.new.items ≡ text.old.items
         ++ second_text address (slice_index words 0) (slice_index words 1) first second }
 {

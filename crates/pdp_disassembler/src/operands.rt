@@ -1,7 +1,6 @@
 // What stands after the mnemonic of an instruction.
 ghost use Rattle.std.specs.Prelude.{◌≡◌};
-ghost use Rattle.pdp_decode.specs.Instruction.{FieldsFit};
-ghost use Rattle.pdp_disassembler.specs.Operands.{OperandsFit, is_immediate, operands_of};
+ghost use Rattle.pdp_disassembler.specs.Operands.{is_immediate, operands_of};
 ghost use Rattle.pdp_disassembler.specs.Operands.{takes_word, words_of_operand, words_that_follow};
 
 use pdp_decode::{Instr, Specifier};
@@ -48,9 +47,7 @@ pub enum Operands {
 
 /// The operands of this instruction.
 pub fn operands_of(instr: Instr) -> Operands
-    requires { FieldsFit instr }
-    ensures value { result ≡ operands_of instr }
-    ensures valid { OperandsFit result }
+    ensures { result ≡ operands_of instr }
 {
     match instr {
         Instr::Rts { register } => Operands::Register(register),

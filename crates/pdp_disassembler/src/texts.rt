@@ -1,6 +1,5 @@
 // The pieces of a text.
 ghost use Rattle.std.specs.Prelude.{◌≡◌, ◌+◌, ◌≤◌, ◌<◌, ◌++◌, length};
-ghost use Rattle.pdp_decode.specs.Fields.{RegisterFits};
 ghost use Rattle.pdp_disassembler.specs.Text.{index_text, octal_text, operand_text, register_name};
 ghost use Rattle.pdp_disassembler.specs.Text.{relative_target};
 
@@ -41,26 +40,29 @@ pub fn add_octal(text: &mut InstructionText, number: u16)
     }
 }
 
-/// Adds the name of a register.
+/// Adds the name of the register of this number, 0 to 7; a number above 7 names PC like 7.
 #[tactic(auto, unfolding(crate::specs::Text::register_name))]
 pub fn add_register(text: &mut InstructionText, register: u8)
-    requires register { register < 8 }
-    requires room { length text.old.items + 2 ≤ LONGEST_TEXT }
+    requires { length text.old.items + 2 ≤ LONGEST_TEXT }
     ensures register_name { text.new.items ≡ text.old.items ++ register_name register }
     ensures length { length text.new.items ≤ length text.old.items + 2 }
 {
     match register {
+        0 => add(text, b"R0"),
+        1 => add(text, b"R1"),
+        2 => add(text, b"R2"),
+        3 => add(text, b"R3"),
+        4 => add(text, b"R4"),
+        5 => add(text, b"R5"),
         6 => add(text, b"SP"),
-        7 => add(text, b"PC"),
-        _ => add(text, &[b'R', b'0' + register]),
+        _ => add(text, b"PC"),
     }
 }
 
 /// Adds an operand, whose own word, if it has one, is `word` at `address`.
 #[tactic(auto, unfolding(crate::specs::Text::operand_text))]
 pub fn add_operand(text: &mut InstructionText, address: u16, word: u16, operand: Specifier)
-    requires valid { RegisterFits operand }
-    requires room { length text.old.items + 11 ≤ LONGEST_TEXT }
+    requires { length text.old.items + 11 ≤ LONGEST_TEXT }
     ensures operand_text { text.new.items ≡ text.old.items ++ operand_text address word operand }
     ensures length { length text.new.items ≤ length text.old.items + 11 }
 {
@@ -89,8 +91,7 @@ pub fn add_operand(text: &mut InstructionText, address: u16, word: u16, operand:
 
 /// Adds a register between what stands before and after it.
 fn add_within(text: &mut InstructionText, before: &[u8], register: u8, after: &[u8])
-    requires register { register < 8 }
-    requires room { length text.old.items + length before.now + 2 + length after.now ≤ LONGEST_TEXT }
+    requires { length text.old.items + length before.now + 2 + length after.now ≤ LONGEST_TEXT }
     ensures texts { text.new.items
         ≡ text.old.items ++ (before.now ++ register_name register ++ after.now) }
     ensures length { length text.new.items
@@ -103,8 +104,7 @@ fn add_within(text: &mut InstructionText, before: &[u8], register: u8, after: &[
 
 /// Adds an index, whose word is at `address`, and its register; by PC, the address that they name.
 fn add_index(text: &mut InstructionText, address: u16, word: u16, register: u8)
-    requires register { register < 8 }
-    requires room { length text.old.items + 10 ≤ LONGEST_TEXT }
+    requires { length text.old.items + 10 ≤ LONGEST_TEXT }
     ensures index_text { text.new.items ≡ text.old.items ++ index_text address word register }
     ensures length { length text.new.items ≤ length text.old.items + 10 }
 {

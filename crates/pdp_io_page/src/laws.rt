@@ -29,8 +29,8 @@ pub fn the_first_request_is_chosen()
     ensures none { NoneIsChosenWhereNoneIsAbove }
 {}
 
-/// A law of requests: whether there is any is told, a source that was served doesn't request, the
-/// others go on as before, and after RESET none does.
+/// A law of requests: the processor is told whether any source requests; a source that was served
+/// doesn't request any more, the others request as before, and after RESET none does.
 ///
 /// PDP-11 Peripherals Handbook, Unibus; RESET [P].
 pub fn requests_go_one_by_one_or_by_reset()

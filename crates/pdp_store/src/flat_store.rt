@@ -17,7 +17,7 @@ use std::marker::Model;
 pub struct Flat {
     words: Vec<u16>,
 
-    /// As many as the words; or empty, in a store without stamps.
+    /// One stamp for each word; empty in a store without stamps.
     stamps: Vec<LastStamp>,
 
     /// The first touch of each page of 256 words; the last page may have fewer.

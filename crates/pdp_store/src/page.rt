@@ -22,7 +22,7 @@ pub struct Page {
     /// were used up.
     pub serial: u64,
     pub words: Vec<u16>,
-    /// As many as the words; or none, if the store is without stamps. The pages that are made of
+    /// One stamp for each word; none, if the store is without stamps. The pages that are made of
     /// this one with a word changed share them.
     pub stamps: Rc<Vec<LastStamp>>,
     /// The greatest turn of these stamps; 0 if there are none.

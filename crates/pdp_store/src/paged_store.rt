@@ -31,7 +31,7 @@ use std::rc::Rc;
 pub struct Paged {
     words: Vec<u16>,
 
-    /// As many as the words; or empty, in a store without stamps.
+    /// One stamp for each word; empty in a store without stamps.
     stamps: Vec<LastStamp>,
 
     /// The base of each place, which counts only if the place isn't marked as written since.

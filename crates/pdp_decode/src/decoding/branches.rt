@@ -1,6 +1,5 @@
 // Branches.
 ghost use Rattle.std.specs.Prelude.{◌≡◌};
-ghost use Rattle.pdp_decode.specs.Instruction.{FieldsFit};
 ghost use Rattle.pdp_decode.specs.Table.{decoded_by, branches, high_branches};
 
 use crate::decoding::fields::offset;
@@ -10,8 +9,7 @@ use crate::instruction::Instr;
 #[inline(always)]
 #[tactic(auto, unfolding(crate::specs::Table::branches))]
 pub(crate) const fn branch_instr(word: u16) -> Instr
-    ensures value { result ≡ decoded_by branches word }
-    ensures valid { FieldsFit result }
+    ensures { result ≡ decoded_by branches word }
 {
     let offset = offset(word);
     match word {
@@ -30,8 +28,7 @@ pub(crate) const fn branch_instr(word: u16) -> Instr
 #[inline(always)]
 #[tactic(auto, unfolding(crate::specs::Table::high_branches))]
 pub(crate) const fn high_branch_instr(word: u16) -> Instr
-    ensures value { result ≡ decoded_by high_branches word }
-    ensures valid { FieldsFit result }
+    ensures { result ≡ decoded_by high_branches word }
 {
     let offset = offset(word);
     match word {

@@ -1,6 +1,5 @@
 // Control, condition codes and traps.
 ghost use Rattle.std.specs.Prelude.{◌≡◌};
-ghost use Rattle.pdp_decode.specs.Instruction.{FieldsFit};
 ghost use Rattle.pdp_decode.specs.Table.{decoded_by, control, traps};
 
 use crate::decoding::fields::{code, codes, last_register, operand};
@@ -10,8 +9,7 @@ use crate::instruction::Instr;
 #[inline(always)]
 #[tactic(auto, unfolding(crate::specs::Table::control))]
 pub(crate) const fn control_instr(word: u16) -> Instr
-    ensures value { result ≡ decoded_by control word }
-    ensures valid { FieldsFit result }
+    ensures { result ≡ decoded_by control word }
 {
     let destination = operand(word);
     let codes = codes(word);
@@ -38,8 +36,7 @@ pub(crate) const fn control_instr(word: u16) -> Instr
 #[inline(always)]
 #[tactic(auto, unfolding(crate::specs::Table::traps))]
 pub(crate) const fn trap_instr(word: u16) -> Instr
-    ensures value { result ≡ decoded_by traps word }
-    ensures valid { FieldsFit result }
+    ensures { result ≡ decoded_by traps word }
 {
     let code = code(word);
     match word {

@@ -1,6 +1,5 @@
 // Instructions with two operands, one of them maybe a register.
 ghost use Rattle.std.specs.Prelude.{◌≡◌};
-ghost use Rattle.pdp_decode.specs.Instruction.{FieldsFit};
 ghost use Rattle.pdp_decode.specs.Table.{decoded_by, double_operands, register_operands};
 ghost use Rattle.pdp_decode.specs.Table.{high_double_operands};
 
@@ -11,8 +10,7 @@ use crate::instruction::Instr;
 #[inline(always)]
 #[tactic(auto, unfolding(crate::specs::Table::double_operands))]
 pub(crate) const fn double_operand_instr(word: u16) -> Instr
-    ensures value { result ≡ decoded_by double_operands word }
-    ensures valid { FieldsFit result }
+    ensures { result ≡ decoded_by double_operands word }
 {
     let source = source(word);
     let destination = operand(word);
@@ -49,8 +47,7 @@ pub(crate) const fn double_operand_instr(word: u16) -> Instr
 #[inline(always)]
 #[tactic(auto, unfolding(crate::specs::Table::register_operands))]
 pub(crate) const fn register_operand_instr(word: u16) -> Instr
-    ensures value { result ≡ decoded_by register_operands word }
-    ensures valid { FieldsFit result }
+    ensures { result ≡ decoded_by register_operands word }
 {
     let source = operand(word);
     let register = register(word);
@@ -75,8 +72,7 @@ pub(crate) const fn register_operand_instr(word: u16) -> Instr
 #[inline(always)]
 #[tactic(auto, unfolding(crate::specs::Table::high_double_operands))]
 pub(crate) const fn high_double_operand_instr(word: u16) -> Instr
-    ensures value { result ≡ decoded_by high_double_operands word }
-    ensures valid { FieldsFit result }
+    ensures { result ≡ decoded_by high_double_operands word }
 {
     let source = source(word);
     let destination = operand(word);

@@ -1,7 +1,6 @@
 // The fields of an instruction word.
-ghost use Rattle.std.specs.Prelude.{◌≡◌, ◌<◌};
-ghost use Rattle.pdp_decode.specs.Fields.{RegisterFits, offset_in, source_in, operand_in};
-ghost use Rattle.pdp_decode.specs.Fields.{register_in};
+ghost use Rattle.std.specs.Prelude.{◌≡◌};
+ghost use Rattle.pdp_decode.specs.Fields.{offset_in, source_in, operand_in, register_in};
 ghost use Rattle.pdp_decode.specs.Fields.{last_register_in, word_count_in, code_in, codes_in};
 
 use crate::instruction::Specifier;
@@ -10,8 +9,7 @@ use pdp_word::Codes;
 // SS of an instruction with two operands.
 #[inline(always)]
 pub(crate) const fn source(word: u16) -> Specifier
-    ensures value { result ≡ source_in word }
-    ensures valid { RegisterFits result }
+    ensures { result ≡ source_in word }
 {
     operand(word >> 6)
 }
@@ -19,8 +17,7 @@ pub(crate) const fn source(word: u16) -> Specifier
 // The low six bits: DD, or SS if the source is the one operand.
 #[inline(always)]
 pub(crate) const fn operand(word: u16) -> Specifier
-    ensures value { result ≡ operand_in word }
-    ensures valid { RegisterFits result }
+    ensures { result ≡ operand_in word }
 {
     let register = last_register(word);
     match word >> 3 & 7 {
@@ -38,8 +35,7 @@ pub(crate) const fn operand(word: u16) -> Specifier
 // R above the low six bits.
 #[inline(always)]
 pub(crate) const fn register(word: u16) -> u8
-    ensures value { result ≡ register_in word }
-    ensures valid { result < 8 }
+    ensures { result ≡ register_in word }
 {
     (word >> 6 & 7) as u8
 }
@@ -47,8 +43,7 @@ pub(crate) const fn register(word: u16) -> u8
 // R in the low three bits.
 #[inline(always)]
 pub(crate) const fn last_register(word: u16) -> u8
-    ensures value { result ≡ last_register_in word }
-    ensures valid { result < 8 }
+    ensures { result ≡ last_register_in word }
 {
     (word & 7) as u8
 }
@@ -56,8 +51,7 @@ pub(crate) const fn last_register(word: u16) -> u8
 // NN, a count of words in the low six bits.
 #[inline(always)]
 pub(crate) const fn words(word: u16) -> u8
-    ensures value { result ≡ word_count_in word }
-    ensures valid { result < 0o100 }
+    ensures { result ≡ word_count_in word }
 {
     (word & 0o77) as u8
 }

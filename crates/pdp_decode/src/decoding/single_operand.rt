@@ -1,6 +1,5 @@
 // Instructions with one operand.
 ghost use Rattle.std.specs.Prelude.{◌≡◌};
-ghost use Rattle.pdp_decode.specs.Instruction.{FieldsFit};
 ghost use Rattle.pdp_decode.specs.Table.{decoded_by, single_operands, byte_single_operands};
 
 use crate::decoding::fields::{operand, register, words};
@@ -10,8 +9,7 @@ use crate::instruction::Instr;
 #[inline(always)]
 #[tactic(auto, unfolding(crate::specs::Table::single_operands))]
 pub(crate) const fn single_operand_instr(word: u16) -> Instr
-    ensures value { result ≡ decoded_by single_operands word }
-    ensures valid { FieldsFit result }
+    ensures { result ≡ decoded_by single_operands word }
 {
     let destination = operand(word);
     match word {
@@ -45,8 +43,7 @@ pub(crate) const fn single_operand_instr(word: u16) -> Instr
 #[inline(always)]
 #[tactic(auto, unfolding(crate::specs::Table::byte_single_operands))]
 pub(crate) const fn byte_single_operand_instr(word: u16) -> Instr
-    ensures value { result ≡ decoded_by byte_single_operands word }
-    ensures valid { FieldsFit result }
+    ensures { result ≡ decoded_by byte_single_operands word }
 {
     let destination = operand(word);
     match word {

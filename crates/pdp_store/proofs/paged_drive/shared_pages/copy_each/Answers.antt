@@ -2,7 +2,7 @@ use Rattle.std.proofs.Common.{◌∙◌, ap, arith}
 use Rattle.pdp_store.specs.declared.page.Page.{Page}
 use Rattle.pdp_store.specs.DriveBackings.{with_part}
 use Rattle.pdp_store.proofs.DriveTaken.{copied-more, copied-none, copied-backings, copied-words}
-use Rattle.pdp_store.proofs.paged_drive.copy_each.Goals as goal
+use Rattle.pdp_store.proofs.paged_drive.shared_pages.copy_each.Goals as goal
 
 pub loop-place-init : goal.loop-place-init
 loop-place-init c = copied-none c.args.pages.now c.args.own.now.items c.args.backings.now.items c.requires.own c.requires.backings

@@ -1,6 +1,6 @@
 use Rattle.std.proofs.Common.{◌≡◌, ◌*◌, ◌+◌, ◌-◌, take, drop, ap, arith}
 use Rattle.pdp_store.specs.Pieces.{piece}
-use Rattle.pdp_store.proofs.paged_drive.part.Goals as goal
+use Rattle.pdp_store.proofs.paged_drive.shared_pages.part.Goals as goal
 
 pub returns : goal.returns
 unfolding piece

@@ -1,7 +1,7 @@
 use Rattle.std.proofs.Common.{Some, ◌≡◌, map, sym, ◌∙◌, ap}
 use Rattle.pdp_store.specs.Pages.{PagedWords, serials, serials_taken, given_after}
 use Rattle.pdp_store.proofs.DriveTaken.{given_after-held, serials_taken-held}
-use Rattle.pdp_store.proofs.paged_drive.PagedDriveSharedPaging.take_pages.Goals as goal
+use Rattle.pdp_store.proofs.paged_drive.shared_pages.PagedDriveSharedPaging.take_pages.Goals as goal
 
 pub returns-in-Some-clause-serials : goal.returns-in-Some-clause-serials
 returns-in-Some-clause-serials c =

@@ -2,13 +2,13 @@ use Rattle.std.proofs.Common.{Vec, Global, ◌≡◌, ◌∙◌, ◌*◌, ℕ, L
 use Rattle.pdp_store.specs.Pages.{SharedPage, words_of}
 use Rattle.pdp_store.proofs.ComparedPages.{all_compared, none_compared, page_compared, page_same}
 use Rattle.pdp_store.proofs.PagedTakes.{as_many_pages}
-use Rattle.pdp_store.proofs.paged_drive.PagedDriveSharedPaging.has_words.Goals as goal
+use Rattle.pdp_store.proofs.paged_drive.shared_pages.PagedDriveSharedPaging.has_words.Goals as goal
 
 -- as many pages as places
 as_many : (pages : List SharedPage) (words : List ℕ) (places : ℕ) → length (words_of pages) ≡ length words → places * 256 ≡ length words → length pages ≡ places
 as_many pages words places same all = as_many_pages pages places (same ∙ sym all)
 
--- src/paged_drive.rt
+-- src/paged_drive/shared_pages.rt
 pub loop-place-init : goal.loop-place-init
 loop-place-init c = sym none_compared
 
