@@ -3,7 +3,6 @@ ghost use Rattle.std.specs.Prelude.{◌∷◌};
 ghost use Rattle.std.specs.Prelude.{length, map, slice_get, IfOk, OnOk, OnErr};
 ghost use Rattle.std.specs.List.{All, filter};
 ghost use Rattle.std.specs.Option.{option_map};
-ghost use Rattle.pdp_store.specs.Parts.{part_of, word_at};
 ghost use Rattle.pdp_unibus.specs.Handbook.LastTurn.{last_turn};
 ghost use Rattle.pdp_checkpoint.specs.Delayed.{ladder_with_delays};
 ghost use Rattle.pdp_checkpoint.specs.Patched.{HavePageAlike, patched_to};
@@ -19,7 +18,7 @@ use crate::patched::ReadyPatch;
 use crate::thin::{cut_near, thin};
 use pdp_cpu::PagedMachine;
 use pdp_io_page::Delays;
-use pdp_store::{Part, WordAt};
+use pdp_store::WordAt;
 use pdp_word::NoMemory;
 use std::alloc::Global;
 use std::marker::Model;
@@ -314,7 +313,7 @@ impl Ladder {
         self.kept[0].saved.set_delays(delays);
     }
 
-    /// Gives a word of core, or of this drive, this value in the checkpoints up to `turn`. Those of
+    /// Gives a word of core or of a drive this value in the checkpoints up to `turn`. Those of
     /// turns above it are set aside (`set_aside`), and the states between are dropped. The
     /// checkpoints up to `turn` have the page of the word alike: they share the one page that is
     /// made. All that is needed for the new states is there before the first is changed. The machine
@@ -328,17 +327,15 @@ impl Ladder {
         alloc: Global,
         machine: &mut PagedMachine,
         turn: u32,
-        drive: Option<u8>,
-        word: usize,
+        at: WordAt,
         value: u16,
         former: Option<Former>,
     ) -> Result<(), NoMemory>
-        requires there { All (λ c. HasWord (word_at (part_of drive) word) c.saved) self.old.kept }
-        requires alike { HavePageAlike (word_at (part_of drive) word)
-            (filter (λ c. nat_le c.turn turn) self.old.kept) }
+        requires there { All (λ c. HasWord at c.saved) self.old.kept }
+        requires alike { HavePageAlike at (filter (λ c. nat_le c.turn turn) self.old.kept) }
         ensures machine { machine.new ≡ machine.old }
         ensures kept { OnOk result (self.new
-            ≡ patched_to turn (word_at (part_of drive) word) value self.new.formers self.old) }
+            ≡ patched_to turn at value self.new.formers self.old) }
         ensures formers { OnOk result (All (IsFormerAfter turn (self.old.kept ++ self.old.near)
             self.old.formers former) self.new.formers) }
         ensures count { OnOk result
@@ -347,10 +344,6 @@ impl Ladder {
         ensures checkpoints { AreCheckpoints self.new }
     {
         let count = ((turn / self.stride) as usize + 1).min(self.kept.len());
-        let at = WordAt {
-            part: Part::of(drive),
-            number: word,
-        };
         let patch = ReadyPatch::new(alloc, machine, &self.kept[..count], at, value)?;
         self.set_aside(alloc, turn, former);
         self.near.clear();

@@ -130,17 +130,9 @@ impl KeptRun {
         ensures refused { OnErr result (self.new ≡ self.old) }
     {
         let reached = self.reached_by(at);
-        let drive = at.part.drive();
         let former = self.patched_former(alloc, reached);
-        self.ladder.patch(
-            alloc,
-            &mut self.machine,
-            reached,
-            drive,
-            at.number,
-            word,
-            former,
-        )?;
+        self.ladder
+            .patch(alloc, &mut self.machine, reached, at, word, former)?;
         self.forget_above(reached);
         self.is_current = false;
         Ok(())

@@ -3,7 +3,6 @@ use Rattle.std.specs.List.{filter}
 use Rattle.std.proofs.lemmas.List.Elements.{All-take}
 use Rattle.std.specs.Vec.{with_items}
 use Rattle.pdp_store.proofs.PagedTakes.{rewrapped}
-use Rattle.pdp_store.specs.Parts.{part_of, word_at}
 use Rattle.pdp_unibus.specs.PatchedPages.{IsPatchOf}
 use Rattle.pdp_cpu.specs.Saved.{HasWord}
 use Rattle.pdp_checkpoint.specs.declared.checkpoint.Checkpoint.{Checkpoint}
@@ -17,16 +16,16 @@ new-requires-clause-some c = omega (arith, c.self.invariant.some, length-take c.
 
 pub new-requires-clause-there : goal.new-requires-clause-there
 new-requires-clause-there c =
-    let there : Checkpoint → Type 0 = λ x. HasWord (word_at (part_of c.args.drive) c.args.word) x.saved in
-    rw c.of.ensures (All-take there c.min-count.result c.deref.result.now
-    (subst (All there) (sym (ap (λ (l : LadderData). l.kept) c.self.view_is) ∙ sym c.deref.ensures.value) c.requires.there))
+    let there : Checkpoint → Type 0 = λ x. HasWord c.args.at x.saved in
+    All-take there c.min-count.result c.deref.result.now
+    (subst (All there) (sym (ap (λ (l : LadderData). l.kept) c.self.view_is) ∙ sym c.deref.ensures.value) c.requires.there)
 
 pub new-requires-clause-alike : goal.new-requires-clause-alike
 new-requires-clause-alike c =
     let l : LadderData = record { kept = c.self.inside.kept.items; stride = c.self.inside.stride; near = c.self.inside.near.items; formers = c.self.inside.formers.items } in
     let low = first_are_low l c.args.turn (take c.min-count.result c.deref.result.now) c.self.invariant (cc) in
-    let alike = HavePageAlike (word_at (part_of c.args.drive) c.args.word) in
-    rw c.of.ensures (subst alike (sym low) (subst (λ (x : LadderData). alike (filter (λ s. nat_le s.turn c.args.turn) x.kept)) (sym c.self.view_is) c.requires.alike))
+    let alike = HavePageAlike c.args.at in
+    subst alike (sym low) (subst (λ (x : LadderData). alike (filter (λ s. nat_le s.turn c.args.turn) x.kept)) (sym c.self.view_is) c.requires.alike)
 
 -- what is left of the checkpoints are those up to the turn
 low : (c : goal.After-self-1) → c.deref_mut.result.now ≡ filter (λ s. nat_le s.turn c.args.turn) c.self.inside.kept.items
@@ -35,18 +34,16 @@ low c =
     ∙ ap (λ (l : LadderData). filter (λ s. nat_le s.turn c.args.turn) l.kept) (sym c.self.view_is)
 
 after : (c : goal.After-self-1)
-    → IsPatchedTo c.args.turn (word_at (part_of c.args.drive) c.args.word) c.args.value (record { kept = c.self.inside.kept.items; stride = c.self.inside.stride; near = c.self.inside.near.items; formers = c.self.inside.formers.items })
+    → IsPatchedTo c.args.turn c.args.at c.args.value (record { kept = c.self.inside.kept.items; stride = c.self.inside.stride; near = c.self.inside.near.items; formers = c.self.inside.formers.items })
     (record { kept = (with_items c.self-2.inside.kept c.put.new.kept).items; stride = c.self-2.inside.stride; near = c.clear.new.self.items; formers = c.self-2.inside.formers.items })
 after c =
     let l : LadderData = record { kept = c.self.inside.kept.items; stride = c.self.inside.stride; near = c.self.inside.near.items; formers = c.self.inside.formers.items } in
     let as_many : length c.put.new.kept ≡ c.self-2.inside.kept.len = search rules in
-    let at = word_at (part_of c.args.drive) c.args.word in
-    let made : IsPatchOf at c.args.value c.in_ok-patch.patch.page =
-    subst (λ x. IsPatchOf (word_at x c.args.word) c.args.value c.in_ok-patch.patch.page) c.of.ensures c.in_ok-patch.ensures.patch in
+    let made : IsPatchOf c.args.at c.args.value c.in_ok-patch.patch.page = c.in_ok-patch.ensures.patch in
     let stride : c.self-2.inside.stride ≡ l.stride = ap (λ (x : LadderData). x.stride) c.self-2.view_is ∙ c.set_aside.ensures.stride ∙ ap (λ (x : LadderData). x.stride) (sym c.self.view_is) in
-    rw (c.clear.ensures.items, stride) (is_patched_to l c.args.turn at c.args.value c.deref_mut.result.now _ c.self-2.inside.formers.items c.self.invariant (low c)
+    rw (c.clear.ensures.items, stride) (is_patched_to l c.args.turn c.args.at c.args.value c.deref_mut.result.now _ c.self-2.inside.formers.items c.self.invariant (low c)
     (rewrapped c.put.new.kept c.self-2.inside.kept.items c.self-2.inside.kept.len as_many ∙ c.put.ensures
-    ∙ same_change c.in_ok-patch.patch.page at c.args.value c.deref_mut.result.now made))
+    ∙ same_change c.in_ok-patch.patch.page c.args.at c.args.value c.deref_mut.result.now made))
 
 pub put-requires : goal.put-requires
 put-requires c =
