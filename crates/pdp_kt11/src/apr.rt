@@ -1,5 +1,5 @@
 ghost use Rattle.std.specs.Prelude.{◌≡◌, ◌<◌};
-ghost use Rattle.pdp_kt11.specs.Handbook.Bits.{physical_addresses};
+ghost use Rattle.pdp_word.specs.Physical.{physical_addresses};
 ghost use Rattle.pdp_kt11.specs.Handbook.Apr.{access_bits, access_control_of, address_written};
 ghost use Rattle.pdp_kt11.specs.Handbook.Apr.{descriptor_word, descriptor_written, empty_page};
 ghost use Rattle.pdp_kt11.specs.Handbook.Apr.{expansion_bit, expansion_of, numbered_page};

@@ -1,4 +1,5 @@
-ghost use Rattle.std.specs.Prelude.{◌≡◌, ◌<◌, ◌^◌};
+ghost use Rattle.std.specs.Prelude.{◌≡◌, ◌<◌};
+ghost use Rattle.pdp_word.specs.Physical.{physical_addresses};
 ghost use Rattle.pdp_kt11.specs.Handbook.Place.{unmapped_address};
 
 use crate::bits::{IO_PAGE, IO_PAGE_HIGHER};
@@ -32,7 +33,7 @@ pub enum Abort {
 #[tactic(auto, unfolding(crate::specs::Handbook::Place::unmapped_address))]
 pub fn unmapped(address: u16) -> u32
     ensures place { result ≡ unmapped_address address }
-    ensures fits { result < 2 ^ 18 }
+    ensures fits { result < physical_addresses }
 {
     let address = u32::from(address);
     if address < IO_PAGE {

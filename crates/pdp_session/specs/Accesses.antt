@@ -3,6 +3,7 @@ use Rattle.std.specs.Prelude.{ℕ, Bool, true, false, List, [], Option, None, So
 use Rattle.std.specs.Prelude.{decimal, length, nat_lt, if◌then◌else◌}
 use Rattle.std.specs.List.{flat_map}
 use Rattle.pdp_word.specs.Number.{octal_digits}
+use Rattle.pdp_word.specs.Physical.{first_register}
 use Rattle.pdp_kt11.specs.declared.mode.Mode.{Mode}
 use Rattle.pdp_kt11.specs.declared.mode.Mode.TheVariants.{Kernel, Bad1, Bad2, User}
 use Rattle.pdp_store.specs.declared.cycle_log.BusCycle.{BusCycle}
@@ -49,10 +50,6 @@ abbrev pub kind_name : CycleKind → List ℕ
 kind_name kind.Read = codes "read"
 kind_name kind.Write = codes "write"
 kind_name kind.WriteByte = codes "byte"
-
--- the first address of a register (octal 760000, bytes)
-abbrev pub first_register : ℕ
-first_register = 253952
 
 -- whether it is core that has the address, and what was read or written there, if anything has it
 abbrev pub place_text : ℕ → Option ℕ → List ℕ

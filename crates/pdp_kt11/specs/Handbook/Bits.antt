@@ -58,14 +58,6 @@ block_words = 0o40
 abbrev pub blocks_of_page : ℕ
 blocks_of_page = 0o200
 
--- the physical addresses (bytes), of 18 bits
-abbrev pub physical_addresses : ℕ
-physical_addresses = 0o1000000
-
--- the physical words
-abbrev pub physical_words : ℕ
-physical_words = 0o400000
-
 -- the first virtual address of the I/O page while mapping is off
 abbrev pub io_page : ℕ
 io_page = 0o160000

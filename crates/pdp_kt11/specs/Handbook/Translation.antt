@@ -3,7 +3,7 @@
 use Rattle.std.specs.Prelude.{ℕ, ◌+◌, ◌*◌, ◌/◌, ◌%◌, Bool, true, false, nat_le, Option, Some, None}
 use Rattle.std.specs.Prelude.{Result, Ok, Err, if◌then◌else◌}
 use Rattle.pdp_kt11.specs.Handbook.Bits.{block_bytes, blocks_of_page, page_bytes}
-use Rattle.pdp_kt11.specs.Handbook.Bits.{physical_addresses}
+use Rattle.pdp_word.specs.Physical.{physical_addresses}
 use Rattle.pdp_kt11.specs.Handbook.Kt.{page_at, with_page}
 use Rattle.pdp_kt11.specs.Handbook.Apr.{numbered_page, space_of}
 use Rattle.pdp_kt11.specs.Handbook.Place.{unmapped_address}
