@@ -3,8 +3,8 @@
 use pdp_store::{Agent, Flat, Stamp, Store};
 use pdp_word::NoMemory;
 
-/// A write has a stamp, and a patch takes it away. The earliest touch of a page stays until its turn
-/// is forgotten.
+/// A write has a stamp, and a patch takes it away. The earliest touch of a page stays until its
+/// turn is forgotten.
 #[test]
 fn words_stamps_and_touches(rt: HostRuntime) -> Result<(), NoMemory> {
     let stamp = Stamp {

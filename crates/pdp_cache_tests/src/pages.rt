@@ -73,8 +73,8 @@ fn pages_are_laid_over_core(rt: HostRuntime) -> Result<(), NoMemory> {
     Ok(())
 }
 
-/// A page that is laid over core becomes the base of its place if its stamps are those of the place.
-/// A base stays if nothing changes.
+/// A page that is laid over core becomes the base of its place if its stamps are those of the
+/// place. A base stays if nothing changes.
 #[test]
 fn bases_of_laid_pages(rt: HostRuntime) -> Result<(), NoMemory> {
     let mut core = Paged::new(rt.alloc(), WORDS, true)?;

@@ -176,8 +176,8 @@ impl Ladder {
         Ok(())
     }
 
-    /// Keeps the state of this machine beside the checkpoints. If that is the 257th of these states,
-    /// the one that was kept first goes. The machine is left as it is.
+    /// Keeps the state of this machine beside the checkpoints. If that is the 257th of these
+    /// states, the one that was kept first goes. The machine is left as it is.
     ///
     /// # Errors
     ///
@@ -219,8 +219,8 @@ impl Ladder {
         cut_near(&mut self.near, turn);
     }
 
-    /// Drops the states of turns above `turn`. If there is a former run, they become its states, and
-    /// it becomes one of the former runs, unless memory is refused for that.
+    /// Drops the states of turns above `turn`. If there is a former run, they become its states,
+    /// and it becomes one of the former runs, unless memory is refused for that.
     pub fn set_aside(&mut self, alloc: Global, turn: u32, former: Option<Former>)
         ensures kept { self.new.kept ≡ filter (λ c. nat_le c.turn turn) self.old.kept }
         ensures near { self.new.near ≡ filter (λ c. nat_le c.turn turn) self.old.near }
@@ -316,8 +316,8 @@ impl Ladder {
     /// Gives a word of core or of a drive this value in the checkpoints up to `turn`. Those of
     /// turns above it are set aside (`set_aside`), and the states between are dropped. The
     /// checkpoints up to `turn` have the page of the word alike: they share the one page that is
-    /// made. All that is needed for the new states is there before the first is changed. The machine
-    /// numbers the new page, and is left as it is.
+    /// made. All that is needed for the new states is there before the first is changed. The
+    /// machine numbers the new page, and is left as it is.
     ///
     /// # Errors
     ///

@@ -29,7 +29,7 @@ pub use laws::{
     aborts_change_no_core_word, courses_leave_what_they_never_touch, plan_is_its_phases,
     stamps_of_courses_are_last_writes, touches_of_courses_are_of_their_turn,
 };
-pub use operand::{STACK_LIMIT, address, fetch, fetch_before_store, is_status, lower, store};
+pub use operand::{YELLOW_LIMIT, address, fetch, fetch_before_store, is_status, lower, store};
 pub use pdp_action::Trap;
 pub use place::{Cell, Fill, Place};
 pub use processor::{GeneralRegister, Processor, RegisterId, RunState};

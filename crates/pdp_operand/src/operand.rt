@@ -22,9 +22,9 @@ use pdp_store::Store;
 use pdp_unibus::Bus;
 use pdp_word::{Size, sign_extend};
 
-/// The yellow zone of the kernel's stack is below this virtual byte address: DEC PDP-11/40 Processor
-/// Handbook (1972), Stack limit; the number is [P].
-pub const STACK_LIMIT: u16 = 0o400;
+/// The yellow zone of the kernel's stack is below this virtual byte address: DEC PDP-11/40
+/// Processor Handbook (1972), Stack limit; the number is [P].
+pub const YELLOW_LIMIT: u16 = 0o400;
 
 /// Its red zone is below this one.
 const RED_LIMIT: u16 = 0o340;
@@ -96,7 +96,7 @@ pub fn lower(processor: &mut Processor, mode: Mode, register: u8, step: u16) -> 
 {
     let id = RegisterId::of(mode, register);
     let address = processor.register(id).wrapping_sub(step);
-    let yellow = id == RegisterId::KernelStack && address < STACK_LIMIT;
+    let yellow = id == RegisterId::KernelStack && address < YELLOW_LIMIT;
     if yellow && address < RED_LIMIT {
         return Err(Trap::StackLimit);
     }

@@ -142,9 +142,9 @@ pub fn saved_machines_are_taken()
 {}
 
 /// A law of runs: a machine that is in a state of the first of two runs that meet there, and keeps
-/// its texts, can be made any later saved machine of the second. If its bytes, its first touches and
-/// its stamps are taken of the second from that turn on, it is then in a state of the first run, and
-/// keeps the texts of the first run.
+/// its texts, can be made any later saved machine of the second. If its bytes, its first touches
+/// and its stamps are taken of the second from that turn on, it is then in a state of the first
+/// run, and keeps the texts of the first run.
 ///
 /// [P]
 pub fn adopted_runs_go_on()

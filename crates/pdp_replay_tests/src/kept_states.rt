@@ -35,8 +35,8 @@ const PUNCHED_A: [KeptByte; 1] = [KeptByte {
     turn: 6,
 }];
 
-/// Asserts which states are kept: the turn of the next, and the turn of the one from which a turn is
-/// reached.
+/// Asserts which states are kept: the turn of the next, and the turn of the one from which a turn
+/// is reached.
 fn assert_kept(rt: &impl Abort, engine: &Engine, turn: u32, want: (u32, u32)) {
     let ladder = engine.kept_states();
     assert_eq!(rt; (ladder.next(), ladder.best(turn).turn), want);
@@ -82,8 +82,8 @@ const BACK_TO_TURN_7: [Step; 2] = [
 
 const EVENT_AT_TURN_5: [Step; 1] = [Step::Edit(Edit::Insert(5, Event::Tick), Ok(1))];
 
-/// By turn 11 the states of the turns 0, 4 and 8 are kept, and then the machine goes back to turn 7.
-/// The edit leaves the states of the turns 0 and 4.
+/// By turn 11 the states of the turns 0, 4 and 8 are kept, and then the machine goes back to turn
+/// 7. The edit leaves the states of the turns 0 and 4.
 fn assert_states(rt: &impl Abort, alloc: Global, engine: &mut Engine) -> Result<(), Fail> {
     follow(rt, alloc, engine, 4, &BACK_TO_TURN_7)?;
     assert_kept(rt, engine, 1_000, (12, 8));

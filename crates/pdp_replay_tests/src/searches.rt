@@ -8,8 +8,8 @@ use std::alloc::Global;
 use std::process::Abort;
 use std::test::Fail;
 
-/// MOV #101,R0; then in a loop MOVB R0,@#177566; MOVB R0,@#177556; INC R0 at 1014; and a branch back
-/// to the first MOVB. The letter of number k, counted from 0, is printed in turn 4k + 2.
+/// MOV #101,R0; then in a loop MOVB R0,@#177566; MOVB R0,@#177556; INC R0 at 1014; and a branch
+/// back to the first MOVB. The letter of number k, counted from 0, is printed in turn 4k + 2.
 const LETTERS: [u16; 9] = [
     0o12700, 0o101, 0o110037, 0o177566, 0o110037, 0o177556, 0o5200, 0o772, 0,
 ];

@@ -194,8 +194,8 @@ fn states_near_a_turn(rt: HostRuntime) -> Result<(), Fail> {
     follow(&rt, rt.alloc(), &mut engine, 100_000, &STATES_NEAR_A_TURN)
 }
 
-/// A key that no program reads changes the machine only in which key waits. A run that meets the run
-/// before the edit takes its states back, and runs no more turns.
+/// A key that no program reads changes the machine only in which key waits. A run that meets the
+/// run before the edit takes its states back, and runs no more turns.
 const KEY: Event = Event::Key(0o101);
 
 const OTHER_KEY: Event = Event::Key(0o102);

@@ -2,6 +2,7 @@
 
 ghost use Rattle.std.specs.Prelude.{◌≡◌, ℕ, ◌+◌, ◌*◌, ◌<◌, ◌≤◌, ◌-◌, ◌%◌, None, true, false, ◌&&◌};
 ghost use Rattle.std.specs.Prelude.{length, map};
+ghost use Rattle.pdp_word.specs.Physical.{physical_words};
 ghost use Rattle.pdp_rk11.specs.Handbook.Completion.{address_after, rk_completed};
 ghost use Rattle.pdp_rk11.specs.Handbook.Completion.{disk_address_after};
 ghost use Rattle.pdp_rk11.specs.Handbook.Completion.{LosesStamps, drive_of, stored_world};
@@ -14,7 +15,7 @@ ghost use Rattle.pdp_rk11.specs.Handbook.Completion.{core_word_of_bus_address, w
 ghost use Rattle.pdp_rk11.specs.Handbook.Completion.{run_function};
 ghost use Rattle.pdp_rk11.specs.Handbook.Completion.{words_asked, write_locked};
 ghost use Rattle.pdp_rk11.specs.Handbook.Completion.{stamps_after, stamps_completed};
-ghost use Rattle.pdp_rk11.specs.Handbook.Geometry.{bus_words, drive_in, most_words_asked};
+ghost use Rattle.pdp_rk11.specs.Handbook.Geometry.{drive_in, most_words_asked};
 ghost use Rattle.pdp_rk11.specs.Handbook.Geometry.{sector_number};
 ghost use Rattle.pdp_rk11.specs.Handbook.Geometry.{sectors_of_drive, words_of_sector};
 ghost use Rattle.pdp_rk11.specs.Trace.{completion_touches, touches_unless_refused};
@@ -24,7 +25,7 @@ ghost use Rattle.pdp_rk11.specs.Touched.{KeepsWritten, stored_touches};
 ghost use Rattle.pdp_rk11.specs.Handbook.Transfer.{core_word, disk_word, is_different};
 
 use crate::geometry::{
-    BUS_ADDRESSES, MOST_WORDS, WORDS_OF_SECTOR, address_of_sector, drive_in, has_cylinder,
+    MOST_WORDS, PHYSICAL_ADDRESSES, WORDS_OF_SECTOR, address_of_sector, drive_in, has_cylinder,
     has_sector, sector_number,
 };
 use crate::transfer::Transfer;
@@ -193,7 +194,7 @@ impl Rk {
         ensures in_core { is_read_check self.now.function ≡ false → (i : ℕ) → i < result.count
             → core_word result i < words }
         ensures count { result.count ≤ most_words_asked }
-        ensures core_start { result.core_start < bus_words }
+        ensures core_start { result.core_start < physical_words }
         ensures aligned { result.disk_start % words_of_sector ≡ 0 }
         ensures disk_start { result.disk_start < sectors_of_drive * words_of_sector }
     {
@@ -213,7 +214,7 @@ impl Rk {
     fn core_word(&self) -> u32
         ensures { result ≡ core_word_of_bus_address self.now.address }
     {
-        self.address % BUS_ADDRESSES / 2
+        self.address % PHYSICAL_ADDRESSES / 2
     }
 
     /// How many words were asked for.
@@ -314,7 +315,7 @@ impl Rk {
     #[tactic(auto, unfolding(crate::specs::Handbook::Completion::registers_after))]
     fn end_transfer(&mut self, size: usize, transfer: Transfer, different: bool)
         requires count { transfer.count ≤ most_words_asked }
-        requires core_start { transfer.core_start < bus_words }
+        requires core_start { transfer.core_start < physical_words }
         requires disk_start { transfer.disk_start < sectors_of_drive * words_of_sector }
         ensures { self.new ≡ registers_after size transfer different self.old }
     {
@@ -331,7 +332,7 @@ impl Rk {
     /// Where the bus address is left.
     fn address_after(&self, transfer: Transfer) -> u32
         requires count { transfer.count ≤ most_words_asked }
-        requires core_start { transfer.core_start < bus_words }
+        requires core_start { transfer.core_start < physical_words }
         ensures { result ≡ address_after self.now transfer }
     {
         if self.no_increment || self.function == Function::ReadCheck {

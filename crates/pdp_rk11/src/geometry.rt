@@ -26,7 +26,7 @@ const SECTORS_OF_CYLINDER: u32 = SURFACES * SECTORS_OF_TRACK;
 pub(crate) const WORDS_OF_SECTOR: u32 = 256;
 
 /// How many addresses (bytes) the bus has: they have 18 bits (PDP-11 Peripherals Handbook, Unibus).
-pub(crate) const BUS_ADDRESSES: u32 = 0o1000000;
+pub(crate) const PHYSICAL_ADDRESSES: u32 = 0o1000000;
 
 /// Bit 16 of a bus address, of which RKBA has those below it and RKCS the others
 /// (PDP-11 Peripherals Handbook, RK11).

@@ -1,6 +1,7 @@
 ghost use Rattle.std.specs.Prelude.{◌≡◌, ◌↔◌, ℕ, ◌+◌, [], IfOk, MatchOption, Option, true};
 ghost use Rattle.std.specs.Prelude.{◌≤◌, cond, false, nat_lt, Err, Ok, OnOk};
-ghost use Rattle.pdp_script.specs.Entries.{entry_of, events_at, events_from, turn_from, DifferLastFrom};
+ghost use Rattle.pdp_script.specs.Entries.{entry_of, events_at, events_from, turn_from};
+ghost use Rattle.pdp_script.specs.Entries.{DifferLastFrom};
 ghost use Rattle.pdp_script.specs.Entries.{IsNextTurn};
 ghost use Rattle.pdp_script.specs.Refusal.{edit_answer, for_memory, past_left};
 ghost use Rattle.pdp_script.specs.Refusal.{question_answer, result_map};

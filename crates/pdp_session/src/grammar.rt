@@ -1,6 +1,6 @@
 //! The grammar of the session language: what a line means. A command is one row of [`read_command`]
-//! and one form below it; an edit that can also be asked about is one row of `read_past_edit` and one
-//! form below that, and a question one row of `read_question` and one form below that.
+//! and one form below it; an edit that can also be asked about is one row of `read_past_edit` and
+//! one form below that, and a question one row of `read_question` and one form below that.
 
 ghost use Rattle.std.specs.Prelude.{◌≡◌, ◌≤◌, length};
 ghost use Rattle.pdp_session.specs.Grammar.{uncore_form, tape_form, delay_form, version_form};

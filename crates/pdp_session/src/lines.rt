@@ -5,9 +5,9 @@ ghost use Rattle.pdp_session.specs.Lines.{without_return};
 use crate::grammar::LONGEST_LINE;
 use arrayvec::ArrayVec;
 
-/// The most bytes that are held of a line that has not ended. A line that is longer than the longest
-/// is refused whatever it has, so no more of it is held than shows that: the bytes of the longest,
-/// one more, and a CR.
+/// The most bytes that are held of a line that has not ended. A line that is longer than the
+/// longest is refused whatever it has, so no more of it is held than shows that: the bytes of the
+/// longest, one more, and a CR.
 const MOST_HELD: usize = LONGEST_LINE + 2;
 
 /// What is held of a line that has not ended.

@@ -1,5 +1,6 @@
 -- Last stamps and first touches of one run, from a turn on, laid over those of another run.
-use Rattle.std.specs.Prelude.{ℕ, ◌≡◌, ◌<◌, ◌≤◌, ◌++◌, List, [], ◌∷◌, Option, Some, None, drop, length}
+use Rattle.std.specs.Prelude.{ℕ, ◌≡◌, ◌<◌, ◌≤◌, ◌++◌, List, [], ◌∷◌, Option, Some, None, drop}
+use Rattle.std.specs.Prelude.{length}
 use Rattle.std.specs.Prelude.{max, nat_le, nat_lt, take, if◌then◌else◌}
 use Rattle.pdp_store.specs.FirstTouches.{FirstTouches, first_touches_of}
 use Rattle.pdp_store.specs.declared.Stamp.{Stamp}
@@ -63,9 +64,9 @@ abbrev pub AreBefore : ℕ → List (Option Stamp) → Type 0
 AreBefore turn [] = Unit {0}
 AreBefore turn (x ∷ xs) = IsBefore turn x × AreBefore turn xs
 
--- two overlays are one: stamps are laid over b from turn c on, and the result over a from turn e on.
--- If e is not before c, and all of b are before e, b has no effect. If e is not after c, it is the
--- same to lay b over a first.
+-- two overlays are one: stamps are laid over b from turn c on, and the result over a from turn e
+-- on. If e is not before c, and all of b are before e, b has no effect. If e is not after c, it is
+-- the same to lay b over a first.
 abbrev pub OverlaysAreFlat : Type 0
 OverlaysAreFlat =
     (c e : ℕ) (a b stamps : List (Option Stamp)) → length b ≡ length stamps

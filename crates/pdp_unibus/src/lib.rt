@@ -25,16 +25,16 @@
 //!   the read (`Bus::instr`, `decoded`). That each kept line is the decoding of core now is an
 //!   invariant of `Bus`, so no write to core can forget it.
 //! - Each bus cycle and each completion of the disk touches the pages of the words that it reads or
-//!   writes. So does a fetch whose line is at hand (`Bus::kept_decoded`). The first touch of a page of
-//!   core or of a drive is the least turn of its touches that were not forgotten (`Bus::first`,
+//!   writes. So does a fetch whose line is at hand (`Bus::kept_decoded`). The first touch of a page
+//!   of core or of a drive is the least turn of its touches that were not forgotten (`Bus::first`,
 //!   `forget`).
 //! - An access that goes to core and changes no mapping register: a read gives the word or byte and
 //!   leaves the bus, as its page was touched before; a write leaves what a bus cycle leaves. One
 //!   that isn't so does nothing (`Bus::core_word`, `core_index`, `core_byte`, `write_core`,
 //!   `write_core_byte`, and `write_core_pair` for two words).
 //! - If core keeps a log, each cycle of the processor is added to it: those of core, of registers,
-//!   and those that time out (`Bus::logging`, `cycles`, `unlogged`). A read that goes to core changes
-//!   nothing only where no log is kept.
+//!   and those that time out (`Bus::logging`, `cycles`, `unlogged`). A read that goes to core
+//!   changes nothing only where no log is kept.
 //! - Up to which turn the bus is calm, so that nothing comes between instructions (`calm_until`).
 //! - What is saved of a bus is all of it except the tape's bytes and the first touches; a load
 //!   makes the bus that again, with the tape and the first touches that it then has (`Bus::save`,

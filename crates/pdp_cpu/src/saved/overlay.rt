@@ -154,8 +154,8 @@ impl Machine<Paged, PagedDrive> {
     }
 }
 
-/// Of bytes that come after the first `from` ones, those after the first `first` and up to the first
-/// `last`.
+/// Of bytes that come after the first `from` ones, those after the first `first` and up to the
+/// first `last`.
 fn between(bytes: &[KeptByte], from: usize, first: usize, last: usize) -> &[KeptByte]
     ensures { result.now ≡ bytes_between from first last bytes.now }
 {

@@ -83,7 +83,8 @@ pub record AddsTurn (words : CountedWords) (act : Act) (pc : ℕ) (mode : Mode)
       ≡ slice_index before number + one_if (is_counted words number act pc mode)
 
 -- the turns of a run from one on and before another were added to the counts
-pub record AddsTurns (p : Past) (words : CountedWords) (from to : ℕ) (before after : List ℕ) : Type 0
+pub record AddsTurns (p : Past) (words : CountedWords) (from to : ℕ) (before after : List ℕ)
+    : Type 0
   where
     pub size : length after ≡ length before
     pub each : (number : ℕ) → number < length before → slice_index after number

@@ -66,8 +66,8 @@ completion_in p first t =
 abbrev pub completions_in_turns : Past → ℕ → ℕ → List DiskCompletion
 completions_in_turns p first n = in_turns (completion_in p first) first n
 
--- the turn that a search before turn `to` ends at: the one after the 256th completion that it lists,
--- or `to` if it lists fewer
+-- the turn that a search before turn `to` ends at: the one after the 256th completion that it
+-- lists, or `to` if it lists fewer
 abbrev pub completions_end : List DiskCompletion → ℕ → ℕ
 completions_end completions to = list_end (λ completion. completion.turn) completions to
 

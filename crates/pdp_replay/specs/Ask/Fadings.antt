@@ -55,7 +55,8 @@ fading edit to p = result_map (joined_by to p) (fading_checked edit to p)
 
 -- one run is kept, the other one is that of the branch; they are not one in turn `from`, but their
 -- scripts have the same events after it
-pub record AreApart (from : ℕ) (p q : Past) (script : ScriptData) (r : KeptRun) (b : Branch) : Type 0
+pub record AreApart (from : ℕ) (p q : Past) (script : ScriptData) (r : KeptRun) (b : Branch)
+    : Type 0
   where
     pub tape : p.setup.tape ≡ q.setup.tape
     pub same : p.script ≡ script

@@ -48,8 +48,8 @@ pub record IsLaterState (to : ℕ) (f : FormerData) (there next : Checkpoint) (r
     pub most : next.turn ≤ to
     pub short : next.turn ≤ next_of r.ladder
 
--- what is kept is still that of each run that has these former runs and was on its way, and it is on
--- its way still
+-- what is kept is still that of each run that has these former runs and was on its way, and it is
+-- on its way still
 abbrev pub FollowsEachKept : List FormerData → KeptRun → KeptRun → Type 0
 FollowsEachKept formers before after =
     (p : Past) → All (IsFormerOf p) formers → IsOnWay p before → IsKeptRun p after

@@ -36,7 +36,7 @@ use std::alloc::Global;
 const MOST_READS: usize = 256;
 
 /// How many byte addresses the bus has: those of a transfer go on at 0 after the last.
-const BUS_ADDRESSES: u32 = 0o1000000;
+const PHYSICAL_ADDRESSES: u32 = 0o1000000;
 
 /// A read of a word of core [P].
 #[derive(Clone, Copy)]
@@ -86,7 +86,7 @@ impl DiskTurn {
     fn is_spanned(&self, number: usize) -> bool
         ensures { result ≡ is_spanned number self.now }
     {
-        let first = (self.before.address % BUS_ADDRESSES / 2) as usize;
+        let first = (self.before.address % PHYSICAL_ADDRESSES / 2) as usize;
         first <= number && number < first + self.words_spanned() as usize
     }
 

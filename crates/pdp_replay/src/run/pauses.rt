@@ -42,9 +42,9 @@ fn pause_before(here: u32, to: u32, stride: u32) -> u32
     here + part
 }
 
-/// From which turn on a run that meets a former run at turn `here` takes a state of it next: at least
-/// three times as far after the edited turn. The next edit is likely near this one, and its run then
-/// meets this one soon.
+/// From which turn on a run that meets a former run at turn `here` takes a state of it next: at
+/// least three times as far after the edited turn. The next edit is likely near this one, and its
+/// run then meets this one soon.
 pub(crate) fn next_taken(here: u32, edited: u32) -> u32
     ensures { here ≤ result }
 {

@@ -4,13 +4,14 @@ use Rattle.std.specs.Prelude.{ℕ, ◌+◌, ◌-◌, ◌*◌, ◌/◌, ◌%◌, 
 use Rattle.std.specs.Prelude.{◌≡◌, ◌&&◌, ◌||◌, List, [], Option, Some, None, length, map}
 use Rattle.std.specs.Prelude.{slice_index_or}
 use Rattle.std.specs.Prelude.{slice_set, if◌then◌else◌}
+use Rattle.pdp_word.specs.Physical.{physical_addresses}
 use Rattle.pdp_device.specs.ReadyEnable.{with_ready}
 use Rattle.pdp_device.specs.Operation.{is_under_way}
 use Rattle.pdp_device.specs.declared.operation.Operation.TheVariants.{Idle}
 use Rattle.pdp_store.specs.Parts.{words_of_drive}
 use Rattle.pdp_store.specs.declared.Agent.TheVariants.{Disk}
 use Rattle.pdp_store.specs.declared.Stamp.{Stamp}
-use Rattle.pdp_rk11.specs.Handbook.Geometry.{address_of_sector, bus_addresses, cylinder_in}
+use Rattle.pdp_rk11.specs.Handbook.Geometry.{address_of_sector, cylinder_in}
 use Rattle.pdp_rk11.specs.Handbook.Geometry.{cylinders}
 use Rattle.pdp_rk11.specs.Handbook.Geometry.{drive_in, most_words_asked, sector_in, sector_number}
 use Rattle.pdp_rk11.specs.Handbook.Geometry.{sectors_of_track, words_of_sector}
@@ -82,7 +83,7 @@ refusal rk drives = (
 
 -- the word of core at a bus address of 18 bits [6.85] [6.98]
 abbrev pub core_word_of_bus_address : ℕ → ℕ
-core_word_of_bus_address address = address % bus_addresses / 2
+core_word_of_bus_address address = address % physical_addresses / 2
 
 -- how many words were asked for: RKWC counts up to 0, and 0 at the start is 65,536 [6.86] [6.90]
 abbrev pub words_asked : Rk → ℕ

@@ -27,13 +27,6 @@ sectors_of_drive = 4872
 abbrev pub sectors_named : ℕ
 sectors_named = 6144
 
--- the addresses (bytes) that the bus has, of 18 bits, and the words at them
-abbrev pub bus_addresses : ℕ
-bus_addresses = 0o1000000
-
-abbrev pub bus_words : ℕ
-bus_words = 0o400000
-
 -- bit 16 of a bus address, of which RKBA has those below it and RKCS the others
 abbrev pub address_bit_16 : ℕ
 address_bit_16 = 0o200000

@@ -27,8 +27,8 @@ translate_form arguments = do
 abbrev pub virtual_range : Mode → ℕ → ℕ → VirtualWords
 virtual_range mode address count = record { mode = mode; address = address; count = count }
 
--- `virtual N MODE A C`: a mode by its name, the virtual address of the first word, in octal, and how
--- many words, in decimal
+-- `virtual N MODE A C`: a mode by its name, the virtual address of the first word, in octal, and
+-- how many words, in decimal
 abbrev pub virtual_form : List (List ℕ) → Option Question
 virtual_form arguments = do
   (turn, others) ← first_of arguments

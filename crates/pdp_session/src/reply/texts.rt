@@ -13,9 +13,9 @@ use pdp_replay::{DeviceRegisters, Fault, PageRegisters, Patch, Regs, RunState};
 use pdp_unibus::SHOWN_REGISTERS;
 use pdp_word::write_octal6;
 
-/// The most bytes that a text has: the reply to the question `pages`, with its LF. That is 34 words,
-/// each of six digits after a space, and the names pages, SR0, SR2, KPDR, KPAR, UPDR and UPAR, a
-/// space before each but the first.
+/// The most bytes that a text has: the reply to the question `pages`, with its LF. That is 34
+/// words, each of six digits after a space, and the names pages, SR0, SR2, KPDR, KPAR, UPDR and
+/// UPAR, a space before each but the first.
 pub const LONGEST_TEXT: usize = 272;
 
 /// A line of a reply, with its LF, or a piece of one. It takes no memory.

@@ -44,7 +44,8 @@ impl<S: Store, D: Store> Bus<S, D> {
         }
     }
 
-    /// Memory management, in its parts (DEC PDP-11/40 Processor Handbook (1972), Memory management).
+    /// Memory management, in its parts (DEC PDP-11/40 Processor Handbook (1972), Memory
+    /// management).
     pub fn mapping_registers(&self) -> MappingRegisters
         ensures { result ≡ self.now.io_page.mapping }
     {
