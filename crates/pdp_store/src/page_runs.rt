@@ -1,6 +1,6 @@
 //! Pages in a row, and the arrays that they are taken from and put into.
 
-ghost use Rattle.std.specs.Prelude.{◌≡◌, ◌<◌, ◌≤◌, ◌+◌, ◌*◌, ◌↔◌, length, true};
+ghost use Rattle.std.specs.Prelude.{◌≡◌, ◌<◌, ◌≤◌, ◌+◌, ◌*◌, ◌↔◌, drop, length, take, true};
 ghost use Rattle.pdp_store.specs.Bases.{AreBases};
 ghost use Rattle.pdp_store.specs.Pages.{stamps_of, page_stamps, page_words, words_of};
 ghost use Rattle.pdp_store.specs.Pieces.{piece, with_items_at};
@@ -74,6 +74,21 @@ fn put_at<T: Copy>(items: &mut [T], at: usize, part: &[T]) -> usize
     let end = at + part.len();
     items[at..end].copy_from_slice(part);
     end
+}
+
+/// Puts these items in place of as many from item `at` on, unless they are there, and returns where
+/// they end.
+#[inline(always)]
+pub(crate) fn put_unless<T: Copy>(are_there: bool, items: &mut [T], at: usize, part: &[T]) -> usize
+    requires room { at + length part.now ≤ length items.old }
+    requires same { are_there ≡ true → take (length part.now) (drop at items.old) ≡ part.now }
+    ensures items { items.new ≡ with_items_at at part.now items.old }
+    ensures end { result ≡ at + length part.now }
+{
+    if are_there {
+        return at + part.len();
+    }
+    put_at(items, at, part)
 }
 
 /// Makes each page the base of its place, and takes its mark away.

@@ -13,7 +13,7 @@ ghost use Rattle.pdp_store.specs.Overlays.{stamps_over};
 ghost use Rattle.pdp_store.specs.Pieces.{piece};
 
 use crate::base::{Base, new_page};
-use crate::overlay::{lay_over, put_bases_over};
+use crate::overlay::{lay_over, put_places_over};
 use crate::page::{PAGE_WORDS, Page};
 use crate::page_runs::{have_words, piece_at, put_bases, put_stamps, put_words};
 use crate::touches::StoreTouches;
@@ -366,16 +366,14 @@ impl Paged {
         ensures given { self.new.given ≡ self.old.given }
         ensures first_touches { self.new.first_touches ≡ self.old.first_touches }
     {
-        let words = &self.words;
-        put_bases_over(
+        put_places_over(
             &mut self.bases,
             &mut self.written,
-            words,
+            &mut self.words,
             &self.stamps,
             pages,
             turn,
         );
-        put_words(&mut self.words, pages);
         lay_over(&mut self.stamps, pages, turn);
     }
 
