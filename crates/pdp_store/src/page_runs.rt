@@ -120,5 +120,12 @@ pub(crate) fn have_words(words: &[u16], pages: &[Rc<Page>]) -> bool
 pub(crate) fn are_same_words(some: &[u16], others: &[u16]) -> bool
     ensures { (result ≡ true) ↔ (some.now ≡ others.now) }
 {
-    some == others
+    if some.len() != others.len() {
+        return false;
+    }
+    let mut same = true;
+    for k in 0..some.len() {
+        same &= some[k] == others[k];
+    }
+    same
 }
