@@ -116,7 +116,8 @@ pub(crate) fn have_words(words: &[u16], pages: &[Rc<Page>]) -> bool
     true
 }
 
-/// Whether two runs of words are the same.
+/// Whether two runs of words are the same. It has no exit before the end: so it takes several words
+/// at a time.
 pub(crate) fn are_same_words(some: &[u16], others: &[u16]) -> bool
     ensures { (result ≡ true) ↔ (some.now ≡ others.now) }
 {

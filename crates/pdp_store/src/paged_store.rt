@@ -355,8 +355,8 @@ impl Paged {
     /// with stamps or without as this one. Of their last stamps those of turn `turn` and of later
     /// turns are laid over those that the store has. Takes no memory.
     ///
-    /// A place whose words and stamps stay keeps its base. Otherwise its page becomes its base if
-    /// the place then has the page's stamps.
+    /// A place whose words and stamps stay is left as it is, with its base. Otherwise its page
+    /// becomes its base if the place then has the page's stamps.
     pub fn load_pages_over(&mut self, pages: &[Rc<Page>], turn: u32)
         requires words { length (words_of pages.now) ≡ length self.old.words }
         requires stamps { length (stamps_of pages.now) ≡ length self.old.stamps }
