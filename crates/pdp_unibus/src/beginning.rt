@@ -38,7 +38,6 @@ impl<S: Store, D: Store> Bus<S, D> {
     pub fn events(&mut self, turn: u32, events: &[Event]) -> Output
         ensures { progress self.new result ≡ after_beginning turn events.now self.old }
     {
-        self.watch = Watch::unknown();
         self.go_to(turn);
         let mut output = Output::default();
         self.take_events(events, &mut output);
