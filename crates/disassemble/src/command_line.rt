@@ -24,7 +24,7 @@ condition code, because NOP is the text of 000240.
 The reply to a line that can't be read is 'bad line: ' and the reason.";
 
 /// The release, as the file VERSION has it.
-const VERSION: &str = "2026-11-29";
+const VERSION: &str = "2026-11-30";
 
 /// The help or the release that these words ask for, the program's name first. `BadArguments` if
 /// there is any other word. `NoMemory` as soon as it is out of memory.
