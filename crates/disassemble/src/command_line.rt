@@ -1,7 +1,7 @@
 // The command line.
 ghost use Rattle.std.specs.Prelude.{◌≡◌, map};
 ghost use Rattle.clap.specs.Words.{FailsBy, app_of, fault_of};
-ghost use Rattle.disassemble.specs.CommandLine.{AsksHelp, help_command};
+ghost use Rattle.disassemble.specs.CommandLine.{AsksText, text_command};
 
 use crate::ending::Ending;
 use clap::error::ErrorKind;
@@ -23,15 +23,18 @@ condition code, because NOP is the text of 000240.
   1 .WORD 075000
 The reply to a line that can't be read is 'bad line: ' and the reason.";
 
-/// The help that these words ask for, the program's name first. `BadArguments` if there is any
-/// other word. `NoMemory` as soon as it is out of memory.
-pub fn help_asked<S: AsStr>(alloc: Global, words: &[S]) -> Result<Option<String>, Ending>
-    ensures { AsksHelp (fault_of help_command (map S.text words.now)) result }
+/// The release, as the file VERSION has it.
+const VERSION: &str = "2026-11-30";
+
+/// The help or the release that these words ask for, the program's name first. `BadArguments` if
+/// there is any other word. `NoMemory` as soon as it is out of memory.
+pub fn text_asked<S: AsStr>(alloc: Global, words: &[S]) -> Result<Option<String>, Ending>
+    ensures { AsksText (fault_of text_command (map S.text words.now)) result }
 {
     match matches_of(alloc, words) {
         Ok(_) => Ok(None),
         Err(error) => match error.kind() {
-            ErrorKind::DisplayHelp => Ok(Some(error.to_string(alloc)?)),
+            ErrorKind::DisplayHelp | ErrorKind::DisplayVersion => Ok(Some(error.to_string(alloc)?)),
             ErrorKind::OutOfMemory => Err(Ending::NoMemory),
             _ => Err(Ending::BadArguments),
         },
@@ -40,15 +43,16 @@ pub fn help_asked<S: AsStr>(alloc: Global, words: &[S]) -> Result<Option<String>
 
 /// What clap finds in these words.
 fn matches_of<'a, S: AsStr>(alloc: Global, words: &'a [S]) -> Result<ArgMatches<'a>, Error>
-    ensures { FailsBy (fault_of help_command (map S.text words.entry.now)) result }
+    ensures { FailsBy (fault_of text_command (map S.text words.entry.now)) result }
 {
     command(alloc).try_get_matches_from(words)
 }
 
 fn command<'a>(alloc: Global) -> Command<'a>
-    ensures { app_of result ≡ help_command }
+    ensures { app_of result ≡ text_command }
 {
     Command::new(alloc, "disassemble")
+        .version(VERSION)
         .about(ABOUT)
         .after_help(LINES)
 }

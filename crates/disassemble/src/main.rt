@@ -10,7 +10,7 @@
 //!
 //! # What is only tested
 //!
-//! - The text of help; the built program on lines whose texts are known from outside.
+//! - The texts of help and of `--version`; the built program on lines whose texts are known from outside.
 //!
 //! What standard input and output do is left to the system.
 #![tactic(auto)]
@@ -21,7 +21,7 @@ mod ending;
 mod line;
 mod lines;
 
-use command_line::help_asked;
+use command_line::text_asked;
 use ending::Ending;
 use std::env;
 use std::io::{BufReader, Write};
@@ -40,11 +40,11 @@ fn main(rt: HostRuntime) -> ExitCode {
     ExitCode::from(ending.status())
 }
 
-/// Writes the help that the command line asks for, or answers the lines of standard input.
+/// Writes the help or the release that the command line asks for, or answers the lines of standard input.
 fn run(rt: &HostRuntime) -> Result<(), Ending> {
     let words = env::args(rt)?.collect::<Vec<String>>(rt.alloc())?;
-    match help_asked(rt.alloc(), words.as_slice())? {
-        Some(help) => rt.stdout().write_all(help.as_bytes())?,
+    match text_asked(rt.alloc(), words.as_slice())? {
+        Some(text) => rt.stdout().write_all(text.as_bytes())?,
         None => {
             let mut reader = BufReader::new(rt.alloc(), rt.stdin())?;
             lines::answer_lines(rt.alloc(), &mut reader, &mut rt.stdout())?;

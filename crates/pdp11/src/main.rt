@@ -14,9 +14,15 @@
 use pdp_program::{Program, run_on_host};
 use std::process::ExitCode;
 
+/// What it is, the release as the file VERSION has it, and where a session comes from.
+const ABOUT: &str = "\
+A PDP-11/40 whose past can be edited: session lines in, replies out
+Nezdrab 2026-11-30; the lines of a session are read from standard input";
+
 const PROGRAM: Program<'static> = Program {
     name: "pdp11",
-    about: "A PDP-11/40 whose past can be edited: session lines in, replies out",
+    about: ABOUT,
+    version: None,
     more_lines: "",
 };
 

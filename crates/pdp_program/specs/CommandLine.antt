@@ -1,18 +1,18 @@
 -- What the words of the command line ask for [P].
 use Rattle.std.specs.Prelude.{◌≡◌, ◌≢◌, List, [], ◌∷◌, map, Option, Some, None, Result, Ok, Err}
-use Rattle.std.specs.Prelude.{◌⊎◌, codes, option_map, string_bytes}
+use Rattle.std.specs.Prelude.{◌⊎◌, Bool, codes, option_map, string_bytes}
 use Rattle.clap.specs.Words.{App, Kinds, IsAmong, Row, Rule, Text, first_of, matches_of, new_app}
 use Rattle.clap.specs.Words.{new_rule, with_rule}
 use Rattle.clap.specs.declared.builder.action.ArgAction.TheVariants.{Set}
 use Rattle.clap.specs.declared.error.kind.ErrorKind.{ErrorKind}
-use Rattle.clap.specs.declared.error.kind.ErrorKind.TheVariants.{DisplayHelp}
+use Rattle.clap.specs.declared.error.kind.ErrorKind.TheVariants.{DisplayHelp, DisplayVersion}
 use Rattle.pdp_program.specs.Numbers.{options_given}
 use Rattle.pdp_program.specs.declared.exit.Exit.{Exit}
 use Rattle.pdp_program.specs.declared.exit.Exit.TheVariants.{BadArguments, NoMemory}
 use Rattle.pdp_program.specs.declared.options.Options.{Options}
 use Rattle.pdp_program.specs.declared.command_line.FileNames.{FileNames}
 use Rattle.pdp_program.specs.declared.command_line.Request.{Request}
-use Rattle.pdp_program.specs.declared.command_line.Request.TheVariants.{Help, Session}
+use Rattle.pdp_program.specs.declared.command_line.Request.TheVariants.{Session, Show}
 
 -- an option of one value, as --units N; N is what help calls the value
 abbrev pub option_rule : Text → Rule
@@ -39,14 +39,19 @@ abbrev pub with_numbers : App → App
 with_numbers app = with_rule (with_rule (with_rule app (option_rule (codes "units"))) (option_rule
     (codes "start"))) (option_rule (codes "stride"))
 
--- the options of a program of this name, beside which clap knows -h and --help
-abbrev pub command_line : Text → App
-command_line name = with_numbers (with_files (new_app name))
+-- with -V and --version, or without
+abbrev pub with_version : Bool → App → App
+with_version has_version app = record app { top = record app.top { has_version = has_version } }
+
+-- the options of a program of this name, beside which clap knows -h and --help, and -V and
+-- --version if it has these
+abbrev pub command_line : Bool → Text → App
+command_line has_version name = with_numbers (with_files (with_version has_version (new_app name)))
 
 -- the options that these words give, by clap's rules, if it refuses nothing
-abbrev pub options_in : Text → List Text → Option Options
-options_in name words =
-    let rows = matches_of (command_line name) words in
+abbrev pub options_in : App → List Text → Option Options
+options_in command words =
+    let rows = matches_of command words in
     options_given (first_of (codes "units") rows) (first_of (codes "start") rows) (first_of
     (codes "stride") rows)
 
@@ -57,19 +62,21 @@ pub record AreNamesIn (rows : List Row) (names : FileNames) : Type 0 where
       (λ option. first_of option rows) drive_options
   pub tape : option_map string_bytes names.tape ≡ first_of (codes "tape") rows
 
--- a fault that is not asking for help
+-- a fault that is not asking for help or for the release
 abbrev pub IsRefused : Kinds → Type 0
-IsRefused faults = (kind : ErrorKind) × (kind ≢ DisplayHelp) × IsAmong kind faults
+IsRefused faults =
+    (kind : ErrorKind) × (kind ≢ DisplayHelp) × (kind ≢ DisplayVersion) × IsAmong kind faults
 
--- An answer about the words of a program of this name in which clap finds these faults, of which
--- asking for help is one: so help wins over a number that can't be read, which is looked at if
--- there is no fault.
-abbrev pub Asks : Text → Kinds → List Text → Result Request Exit → Type 0
-Asks name faults words (Ok (Help text)) = IsAmong DisplayHelp faults
-Asks name faults words (Ok (Session options names)) =
-    (faults ≡ []) × (options_in name words ≡ Some options) × AreNamesIn (matches_of
-    (command_line name) words) names
-Asks name faults words (Err BadArguments) = IsRefused faults ⊎ ((faults ≡ []) × (options_in name
-    words ≡ None))
-Asks name faults words (Err NoMemory) = Unit {0}
-Asks name faults words (Err _) = ⊥
+-- An answer about the words of a program with these options in which clap finds these faults, of
+-- which asking for help or for the release is one: so these win over a number that can't be read,
+-- which is looked at if there is no fault.
+abbrev pub Asks : App → Kinds → List Text → Result Request Exit → Type 0
+Asks command faults words (Ok (Show text)) =
+    IsAmong DisplayHelp faults ⊎ IsAmong DisplayVersion faults
+Asks command faults words (Ok (Session options names)) =
+    (faults ≡ []) × (options_in command words ≡ Some options)
+    × AreNamesIn (matches_of command words) names
+Asks command faults words (Err BadArguments) = IsRefused faults ⊎ ((faults ≡ [])
+    × (options_in command words ≡ None))
+Asks command faults words (Err NoMemory) = Unit {0}
+Asks command faults words (Err _) = ⊥

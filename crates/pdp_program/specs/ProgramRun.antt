@@ -1,5 +1,5 @@
 -- What the program has done with its streams when it ends [P].
-use Rattle.std.specs.Prelude.{◌≡◌, ℕ, ◌++◌, List, [], Option, Result, Ok, Err, string_bytes}
+use Rattle.std.specs.Prelude.{◌≡◌, ℕ, ◌++◌, Bool, List, [], Option, Result, Ok, Err, string_bytes}
 use Rattle.std.specs.Io.KnownBytes.{Appends}
 use Rattle.clap.specs.Words.{Text, fault_of}
 use Rattle.pdp_script.specs.declared.faults.Fault.{Fault}
@@ -17,7 +17,7 @@ use Rattle.pdp_program.specs.declared.exit.Exit.{Exit}
 use Rattle.pdp_program.specs.declared.exit.Exit.TheVariants.{Done, InputOrOutput}
 use Rattle.pdp_program.specs.declared.options.Options.{Options}
 use Rattle.pdp_program.specs.declared.command_line.Request.{Request}
-use Rattle.pdp_program.specs.declared.command_line.Request.TheVariants.{Help}
+use Rattle.pdp_program.specs.declared.command_line.Request.TheVariants.{Show}
 use Rattle.pdp_program.specs.declared.command_line.Request.TheVariants.{Session as SessionWith}
 
 -- what a run with these options, images and tape starts from: one drive, no patch, and the standard
@@ -70,20 +70,21 @@ pub record Starts (language : Language) (contents : Text → Option (List ℕ)) 
 -- after
 abbrev pub DoesRequest : Language → (Text → Option (List ℕ)) → Result Request Exit → StreamsData
     → StreamsData → Exit → Type 0
-DoesRequest language contents (Ok (Help text)) before after exit =
+DoesRequest language contents (Ok (Show text)) before after exit =
     (after.input ≡ before.input) × Shows (string_bytes text) before.output after.output exit
 DoesRequest language contents (Ok (SessionWith options names)) before after exit =
     Starts language contents options names before after exit
 DoesRequest language contents (Err cause) before after exit = (after ≡ before) × (exit ≡ cause)
 
--- the whole run of a program of this language and name: what the words ask for was done, and its
--- exit is told
-pub record Tells (language : Language) (name : Text) (words : List Text)
+-- the whole run of a program of this language and name, with --version or without: what the words
+-- ask for was done, and its exit is told
+pub record Tells (language : Language) (has_version : Bool) (name : Text) (words : List Text)
     (contents : Text → Option (List ℕ)) (before after : StreamsData) (status : ℕ)
     (line : Option Text) : Type 0 where
   pub asked : Result Request Exit
   pub exit : Exit
-  pub asks : Asks name (fault_of (command_line name) words) words asked
+  pub asks : Asks (command_line has_version name) (fault_of (command_line has_version name) words)
+      words asked
   pub does : DoesRequest language contents asked before after exit
   pub told_status : status ≡ exit_status exit
   pub told_line : line ≡ line_of name exit

@@ -1,9 +1,9 @@
-ghost use Rattle.std.specs.Prelude.{◌≡◌, false, map, option_map, string_bytes, IfOk};
+ghost use Rattle.std.specs.Prelude.{◌≡◌, false, is_some, map, option_map, string_bytes, IfOk};
 ghost use Rattle.clap.specs.Words.{FailsBy, app_of, fault_of, found_of, matches_of, first_of};
 ghost use Rattle.clap.specs.Words.{rows_of, rule_of, with_rule};
 ghost use Rattle.pdp_program.specs.CommandLine.{AreNamesIn, Asks, command_line, drive_options};
 ghost use Rattle.pdp_program.specs.CommandLine.{option_rule, with_files, with_numbers};
-ghost use Rattle.pdp_program.specs.CommandLine.{with_options};
+ghost use Rattle.pdp_program.specs.CommandLine.{with_options, with_version};
 
 use crate::exit::Exit;
 use crate::options::{Options, read_options};
@@ -48,8 +48,8 @@ EVENT is key B, tick, printer, reader, punch, disk, switches W or continue.";
 /// What the words of the command line ask for.
 #[derive(Drop)]
 pub enum Request {
-    /// This text of help.
-    Help(String),
+    /// This text, of help or of the release.
+    Show(String),
     /// A session with these options, and with the images and the tape that the files of these names
     /// hold.
     Session { options: Options, names: FileNames },
@@ -68,14 +68,15 @@ pub struct FileNames {
 
 /// What these words ask a program for, its name first. `BadArguments`: an option is unknown, is
 /// given twice or without a value, there is a word that belongs to none, or a number can't be read.
-/// Help wins over the last. `NoMemory` as soon as it is out of memory.
+/// Help and the release win over the last. `NoMemory` as soon as it is out of memory.
 pub fn read_words<S: AsStr>(
     alloc: Global,
     program: Program<'_>,
     words: &[S],
 ) -> Result<Request, Exit>
-    ensures { Asks program.entry.name.now
-        (fault_of (command_line program.entry.name.now) (map S.text words.now))
+    ensures { Asks (command_line (is_some program.entry.version) program.entry.name.now)
+        (fault_of (command_line (is_some program.entry.version) program.entry.name.now)
+        (map S.text words.now))
         (map S.text words.now) result }
 {
     match matches_of(alloc, program, words) {
@@ -95,8 +96,9 @@ pub fn read_words<S: AsStr>(
             ErrorKind::DisplayHelp => {
                 let mut text = error.to_string(alloc)?;
                 text.push_str(program.more_lines)?;
-                Ok(Request::Help(text))
+                Ok(Request::Show(text))
             }
+            ErrorKind::DisplayVersion => Ok(Request::Show(error.to_string(alloc)?)),
             ErrorKind::OutOfMemory => Err(Exit::NoMemory),
             _ => Err(Exit::BadArguments),
         },
@@ -156,21 +158,32 @@ fn matches_of<'a, S: AsStr>(
     words: &'a [S],
 ) -> Result<ArgMatches<'a>, Error>
     ensures faults { FailsBy
-        (fault_of (command_line program.entry.name.now) (map S.text words.entry.now)) result }
+        (fault_of (command_line (is_some program.entry.version) program.entry.name.now) (map S.text words.entry.now)) result }
     ensures rows { IfOk result (λ matches. rows_of (found_of matches)
-        ≡ matches_of (command_line program.entry.name.now) (map S.text words.entry.now)) }
+        ≡ matches_of (command_line (is_some program.entry.version) program.entry.name.now) (map S.text words.entry.now)) }
 {
     let command = command(alloc, program)?;
     command.try_get_matches_from(words)
 }
 
 fn command<'a>(alloc: Global, program: Program<'a>) -> Result<Command<'a>, AllocError>
-    ensures { IfOk result (λ command. app_of command ≡ command_line program.entry.name.now) }
+    ensures { IfOk result (λ command. app_of command ≡ command_of program.entry) }
 {
     let command = Command::new(alloc, program.name)
         .about(program.about)
         .after_help(LINES);
+    let command = with_version(command, program.version);
     with_numbers(alloc, with_files(alloc, command)?)
+}
+
+/// With an option that prints this release, if there is one.
+fn with_version<'a>(command: Command<'a>, version: Option<&'a str>) -> Command<'a>
+    ensures { app_of result ≡ with_version (is_some version.entry) (app_of command.entry) }
+{
+    match version {
+        Some(version) => command.version(version),
+        None => command,
+    }
 }
 
 /// With the options that name files.

@@ -1,5 +1,6 @@
 -- The completions of the disk, as lines [P].
-use Rattle.std.specs.Prelude.{ℕ, Bool, List, Option, None, Some, ◌++◌, codes, decimal, length}
+use Rattle.std.specs.Prelude.{ℕ, Bool, List, Option, None, Some, ◌++◌, ◌*◌, ◌/◌, codes, decimal}
+use Rattle.std.specs.Prelude.{length}
 use Rattle.std.specs.List.{flat_map}
 use Rattle.pdp_word.specs.Number.{octal_digits}
 use Rattle.pdp_rk11.specs.Handbook.Completion.{first_word_of_sector}
@@ -35,13 +36,17 @@ unfoldable pub turns_text : DiskCompletion → List ℕ
 turns_text completion =
     decimal completion.turn ++ codes " " ++ begun_text completion.begun ++ codes " "
 
+-- the address of the first word in core: bit 0 of the bus address isn't used
+abbrev pub first_core_address : Rk → ℕ
+first_core_address rk = rk.address / 2 * 2
+
 -- what was asked for: the function, the drive, the number on it of the first word, and the address
 -- of the first word in core
 unfoldable pub asked_text : Rk → List ℕ
 asked_text rk =
     function_name rk.function ++ codes " " ++ decimal (drive_in rk.disk_address) ++ codes " "
-    ++ octal_digits 7 (first_word_of_sector rk) ++ codes " " ++ octal_digits 6 rk.address
-    ++ codes " "
+    ++ octal_digits 7 (first_word_of_sector rk) ++ codes " " ++ octal_digits 6
+    (first_core_address rk) ++ codes " "
 
 -- what was done, by the controller before and after: how many words, and RKER
 unfoldable pub done_text : Rk → Rk → List ℕ

@@ -8,15 +8,19 @@
 //!
 //! # What is only tested
 //!
-//! - The text of help, on the built program.
+//! - The texts of help and of `--version`, on the built program.
 #![tactic(auto)]
 
 use pdp_program::{Program, run_on_host};
 use std::process::ExitCode;
 
+/// The release, as the file VERSION has it.
+const VERSION: &str = "2026-11-30";
+
 const PROGRAM: Program<'static> = Program {
     name: "search",
     about: "A PDP-11/40 whose past can be edited and searched: lines in, replies out",
+    version: Some(VERSION),
     more_lines: LINES,
 };
 

@@ -108,7 +108,7 @@ pub fn add_asked(text: &mut Text, asked: Rk)
     add(text, b" ");
     add_octal7(text, asked.first_word());
     add(text, b" ");
-    add(text, &write_octal6(asked.address));
+    add(text, &write_octal6(asked.address / 2 * 2));
     add(text, b" ");
 }
 

@@ -1,5 +1,5 @@
 -- The command line has no option that clap's definition doesn't tell of.
-use Rattle.std.proofs.Common.{◌≡◌, List, Result, Ok, Err, IfOk, map, true, refl, ap, ◌∙◌, subst}
+use Rattle.std.proofs.Common.{◌≡◌, List, Result, Ok, Err, IfOk, Bool, false, is_some, map, true, refl, ap, ◌∙◌, subst}
 use Rattle.clap.specs.Words.{App, FailsBy, HasMatchesOf, Text, app_of, fault_of, found_of, is_simple, is_simple_and_free, matches_of, rows_of}
 use Rattle.clap.specs.declared.error.Error.{Error}
 use Rattle.clap.specs.declared.parser.matches.ArgMatches.{ArgMatches}
@@ -15,11 +15,23 @@ rows_are : (r : Result ArgMatches Error) (a : App) (words : List Text) → is_si
 rows_are (Ok m) a words simple has = (has simple).0
 rows_are (Err e) a words simple has = tt
 
+all_simple_and_free : (has_version : Bool) (name : Text) → is_simple_and_free (command_line has_version name) ≡ true
+all_simple_and_free true name = refl
+all_simple_and_free false name = refl
+
+all_simple : (has_version : Bool) (name : Text) → is_simple (command_line has_version name) ≡ true
+all_simple true name = refl
+all_simple false name = refl
+
 pub returns-clause-faults : goal.returns-clause-faults
 returns-clause-faults g c =
-    faults_are c.try_get_matches_from.result (app_of c.in_ok-command.command) (command_line c.args.program.name.now) (map g.S.AsStr.text c.args.words.now) c.in_ok-command.ensures refl
+    let has_version = is_some c.args.program.version in
+    faults_are c.try_get_matches_from.result (app_of c.in_ok-command.command) (command_line has_version c.args.program.name.now)
+    (map g.S.AsStr.text c.args.words.now) c.in_ok-command.ensures (all_simple_and_free has_version c.args.program.name.now)
     c.try_get_matches_from.ensures.kinds
 
 pub returns-clause-rows : goal.returns-clause-rows
 returns-clause-rows g c =
-    rows_are c.try_get_matches_from.result (command_line c.args.program.name.now) (map g.S.AsStr.text c.args.words.now) refl (rw c.in_ok-command.ensures at c.try_get_matches_from.ensures.matches)
+    let has_version = is_some c.args.program.version in
+    rows_are c.try_get_matches_from.result (command_line has_version c.args.program.name.now) (map g.S.AsStr.text c.args.words.now)
+    (all_simple has_version c.args.program.name.now) (rw c.in_ok-command.ensures at c.try_get_matches_from.ensures.matches)
