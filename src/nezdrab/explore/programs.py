@@ -41,7 +41,8 @@ def found_program(name: str) -> str:
 
 
 def program_of_clone(root: Path, name: str) -> str:
-    command = [str(root / "tools" / "program"), name]
+    quiet = ["--quiet"] if name == "disassemble" else []  # what search says holds for both
+    command = [str(root / "tools" / "program"), *quiet, name]
     found = subprocess.run(command, stdin=subprocess.DEVNULL, stdout=subprocess.PIPE)
     if found.returncode:
         raise ExploreError(f"there is no program {name}")
@@ -56,7 +57,9 @@ def by_another_python(statements: str) -> list[str]:
 
 def own_command() -> str:
     """How explore is started."""
-    return "nezdrab-explore" if clone() is None else "./explore"
+    root = clone()
+    is_installed = root is None or (root / "INSTALLED").exists()  # which tools/release put there
+    return "nezdrab-explore" if is_installed else "./explore"
 
 
 def become(program: str, command: str) -> NoReturn:
