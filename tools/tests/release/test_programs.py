@@ -220,7 +220,8 @@ class ByNode(Tree):
         with mock.patch.dict(os.environ, {"PDP11_RELEASE": "1"}):
             ended = self.run_in("./pdp11", "a")
         self.assertRegex(ended.stdout, "^by node: .* a\n$")
-        self.assertRegex(ended.stderr, "^pdp11: PDP11_RELEASE has release/pdp11.wasm run, [^\n]*\n$")
+        said = "^pdp11: PDP11_RELEASE has release/pdp11.wasm run, [^\n]*\n$"
+        self.assertRegex(ended.stderr, said)
 
 
 @unittest.skipUnless(shutil.which("node"), "node isn't installed")
