@@ -141,6 +141,9 @@ class Wheel(Case):
         shown = self.run_in(self.room, explore, "my.session", given="last 40 2000\nsee 20 1\n")
         self.assertIn("last 19 cpu 000107", shown)
         self.assertIn("ADD #7,@#2000", shown)
+        for name in "search", "disassemble":
+            said = self.run_in(self.room, str(self.away / "bin" / f"nezdrab-{name}"), "--version")
+            self.assertEqual(said, f"{name} of Nezdrab, release {nezdrab.__version__} or later\n")
         for command in ("nezdrab", "nezdrab-search"):
             shown = self.run_in(self.room, str(self.away / "bin" / command), given="regs 0\n")
             self.assertIn("PC 001000", shown)

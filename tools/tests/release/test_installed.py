@@ -123,7 +123,7 @@ class Installed(Tree):
     def test_pages_and_completions(self) -> None:
         self.install()
         share = self.prefix / "share"
-        for name in "nezdrab", "nezdrab-search", "nezdrab-explore":
+        for name in COMMANDS:
             for path in (
                 f"man/man1/{name}.1",
                 f"bash-completion/completions/{name}",
