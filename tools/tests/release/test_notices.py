@@ -73,7 +73,7 @@ class Notices(unittest.TestCase):
     def test_the_page_has_those_of_the_modules(self) -> None:
         with tempfile.TemporaryDirectory() as folder:
             page = Path(folder) / "it.html"
-            command = [ROOT / "tools" / "web", "--pack", page]
+            command = [str(ROOT / "tools" / "web"), "--pack", str(page)]
             subprocess.run(command, stdout=subprocess.DEVNULL, check=True)
             head = page.read_text(encoding="utf-8").split("</head>")[0]
         comment = re.search(r"<!--\n(.*)-->\n$", head, re.S)
