@@ -2,13 +2,11 @@
 script, where a shell has Ctrl-C ignored."""
 import os
 import re
-import shutil
 import signal
 import subprocess
 import sys
 import time
 import unittest
-from contextlib import suppress
 
 from checks.by_name import CHECKS
 from tests import processes
