@@ -27,6 +27,12 @@ def ctrl_c() -> Iterator[None]:
 
 
 class Stopping(Case):
+    def setUp(self) -> None:
+        """A shell starts what is in its background with Ctrl-C ignored."""
+        super().setUp()
+        before = signal.signal(signal.SIGINT, signal.default_int_handler)
+        self.addCleanup(signal.signal, signal.SIGINT, before)
+
     def stuck(self, word: str) -> Machine:
         """A machine with edits, whose program never replies to lines that begin with the word."""
         machine = self.machine(program=self.stuck_program(word), seconds=SECONDS)
