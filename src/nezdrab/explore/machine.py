@@ -179,10 +179,10 @@ class Machine:
         with INTERRUPTS.held():
             replies = list(self.ask_all(lines, SHORT_SENT_AHEAD))
             taken = [pair for pair in zip(lines, replies) if is_taken(pair[1])]
-            if self.file is not None and taken:
-                self.file.add(self.journal, [line for line, _ in taken])
             self.journal += [line for line, _ in taken]
             self.replies += [reply for _, reply in taken]
+            if self.file is not None and taken:
+                self.file.add(self.journal, len(taken))
             for word in {first_word(line) for line, _ in taken}:
                 if word in OF_EVENTS:
                     self._script = None

@@ -1,5 +1,6 @@
 """Edits that outlast a closed terminal, and edits that are taken back."""
 import os
+import resource
 import shutil
 import signal
 import subprocess
@@ -9,6 +10,7 @@ from .common import SECONDS
 from .media import tape, words
 from .terminal import AtTerminal
 
+LARGER = 1 << 20
 PAST = "regs 40\nevents\npatches\n"
 
 
@@ -133,6 +135,63 @@ class Journals(AtTerminal):
             self.assertEqual(self.child.wait(SECONDS), 0)
             self.seen = b""
         self.assertEqual(len(self.journals()), 4)
+
+    def test_edits_that_no_journal_has_are_not_dropped_unasked(self) -> None:
+        fault = b"and the journal can't be written: No such file or directory: save FILE keeps"
+        self.state = "/proc/nope"
+        for keep in (False, True):
+            self.begin("examples/ledger/ledger.session")
+            self.type("at 1000 key 101\n")
+            self.wait_for(b"event 28")
+            for word in ("quit\n", "q\n", "exit\n", "\x04", "\x04"):
+                self.type(word)
+                self.wait_for(b"1 edit not saved, " + fault)
+            self.type("quit\nundo\n")
+            self.wait_for(fault)
+            self.type("undo\n")
+            self.wait_for(b"taken back: at 1000 key 101")
+            self.type("redo\n")
+            self.type("save it\n" if keep else "quit!\n")
+            if keep:
+                self.wait_for(b"lines in it")
+                self.end()
+            self.assertEqual(self.child.wait(SECONDS), 0)
+            self.seen = b""
+        self.assertIn("at 1000 key 101\n", (self.folder / "it").read_text())
+
+    def test_a_full_disk_and_quit(self) -> None:
+        """What was written and what wasn't: all of it is kept once there is room."""
+        lines = [f"core {it:o} 5" for it in range(0o1000, 0o2000, 2)]
+        self.prepare = lambda: resource.setrlimit(resource.RLIMIT_FSIZE, (4096, LARGER))
+        self.begin()
+        self.type("".join(f"{it}\n" for it in lines))
+        self.wait_for(b"edits are in memory alone")
+        self.type("patches\n")
+        self.wait_for(b"patches 256")
+        self.type("\x04")
+        self.wait_for(b"256 edits not saved, and the journal can't be written: File too large: ")
+        limits = (LARGER, LARGER)
+        resource.prlimit(self.child.pid, resource.RLIMIT_FSIZE, limits)
+        self.type("quit\n")
+        self.wait_for(b"the past isn't saved: ./explore --resume takes up 256 edits")
+        self.child.wait(SECONDS)
+        written = self.explore("patches\n", "--resume").splitlines()
+        self.assertEqual(written[:2], ["256 edits taken up (session: none)", "patches 256"])
+
+    def test_a_journal_that_could_not_be_begun(self) -> None:
+        """It is whole once it can be, and has each edit once."""
+        state = self.folder / "state"
+        state.write_text("")
+        self.begin()
+        self.type("core 2000 5\n")
+        self.wait_for(b"edits are in memory alone")
+        self.type("core 2002 5\n")
+        self.wait_for(b"ok")
+        state.unlink()
+        self.end()
+        (journal,) = self.journals()
+        edits = "".join(self.LINE.replace("2000", it) for it in ("2000", "2002"))
+        self.assertEqual(journal.read_text(), f"#!\n# session none\n# at the prompt\n{edits}")
 
     def test_two_runs_have_two_journals(self) -> None:
         self.edit_and_die(signal.SIGKILL)
