@@ -17,7 +17,7 @@ MAPPED_HELP = (
 )
 VIRTUAL_LINE = re.compile(
     r"(?P<before>(last[ \t]+(?P<last>[0-9]{1,10})|writes[ \t]+(?P<writes>[0-9]{1,10})"
-    r"[ \t]+[0-9]{1,10}|next|changes|watch|reads|rwatch|(?P<why>why)|first[ \t]+core)[ \t]+)"
+    r"[ \t]+[0-9]{1,10}|next|changes|watch|reads|rwatch|(?P<why>why)([ \t]+core)?|first[ \t]+core)[ \t]+)"
     r"(?P<mode>kernel|user)[ \t]+(?!(from|to)[ \t])"
     rf"(?P<address>{ADDRESS})(?P<after>(?![^\s=]).*)"
 )
