@@ -1,12 +1,15 @@
 """Edits that outlast a closed terminal, and edits that are taken back."""
 import os
+import random
 import resource
 import shutil
 import signal
 import subprocess
 from pathlib import Path
+from typing import Sequence
 
 from .common import SECONDS
+from .machines import OnMachine
 from .media import tape, words
 from .terminal import AtTerminal
 
@@ -334,3 +337,45 @@ class TakenBack(AtTerminal):
         written = self.explore(lines + "undo\nevents\ndrop from\n").splitlines()[4:]
         self.assertEqual(written[:2], ["2 events dropped", "2 events"])
         self.assertEqual(written[4:6], ["taken back: drop from 10 (2 edits)", "4 events"])
+
+
+class ByEdits(OnMachine):
+    """What is taken back, at random, against a program that had the other edits alone."""
+
+    # TSTB @#177560; BPL .-4; MOVB @#177562,R0; MOV R0,2000(R1); TST (R1)+; BR: each key is kept
+    PROGRAM = "105737 177560 100375 113700 177562 10061 2000 5721 767"
+    ASKED = ("setup", "events", "patches", "regs 60", "mem 60 2000 8", "punched 60", "devices 4")
+
+    def edit(self, chance: random.Random, events: int, drive: str) -> str:
+        event = chance.choice(("key {:o}", "tick", "switches {:o}")).format(chance.randrange(100))
+        altered, turn = chance.randrange(1, events + 2), chance.randrange(5)
+        word = chance.choice(("2000", "2002", "02000"))
+        kinds = (f"core {word} {turn}", f"uncore {word}", f"at {turn} {event}", "tape 1 2")
+        kinds += (f"disk {drive}{turn} 5", f"delay disk {turn}", f"delay clock {turn}", "tape 3")
+        kinds += (f"alter {altered} {turn} {event}",) * 4
+        rare = ("version 2", f"drop {altered}")
+        return chance.choice(rare if chance.random() < 0.1 else kinds)
+
+    def replies(self, edits: Sequence[str]) -> list[str]:
+        machine = self.explorer(edits=edits).machine
+        return [*map(machine.ask, self.ASKED), machine.ask("at 50 tick")]
+
+    def test_the_past_is_the_same(self) -> None:
+        kept = 0
+        words = enumerate(self.PROGRAM.split())
+        program = [f"core {0o1000 + 2 * at:o} {word}" for at, word in words]
+        for seed in range(24):
+            chance = random.Random(seed)
+            machine = self.explorer(edits=program).machine
+            for _ in range(chance.randrange(3, 20)):
+                drive = "0 " if "version 2" in machine.journal else ""
+                machine.ask(self.edit(chance, len(machine.script), drive))
+            machine.read("regs 60")
+            before = machine.program
+            for count in (chance.randrange(1, 4), 1):
+                machine.take_back(min(count, len(machine.journal) - len(program)))
+                wanted = self.replies(machine.journal)
+                self.assertEqual([*map(machine.ask, self.ASKED)], wanted[:-1], machine.journal)
+            kept += machine.program is before
+            self.assertEqual(machine.ask("at 50 tick"), wanted[-1], machine.journal)
+        self.assertGreater(kept, 5)
