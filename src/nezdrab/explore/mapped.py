@@ -67,8 +67,8 @@ def beside_register(explorer: Explorer, text: str) -> str:
     except ExploreError:
         return ""
     machine, turn = explorer.machine, explorer.turn
-    top = min(machine.setup.units * UNIT_BYTES, LARGEST + 1)
-    if not FIRST_OF_IO <= address < top:
+    is_near = FIRST_OF_IO <= address <= LARGEST
+    if not is_near or address >= machine.setup.units * UNIT_BYTES:
         return ""
     mode = machine.registers(turn).mode
     (place,) = machine.places([(turn, mode, address & ~1)])

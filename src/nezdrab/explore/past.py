@@ -96,26 +96,25 @@ class Made:
 
     def in_turns(self) -> dict[int, list[str]]:
         """The edits that put the events of each turn there, in their order, from another turn."""
-        found = defaultdict(list)
+        found: dict[int, list[str]] = defaultdict(list)
         for number, (turn, text) in self.events.items():
             away = turn - 1 if turn else 1
             found[turn] += [f"alter {number} {it} {text}" for it in (away, turn)]
         return found
 
     def edits_to(self, past: "Made") -> Optional[list[str]]:
-        """Edits that make that past of this one, but for the numbers that were given; or None, since
-        a dropped event doesn't come back with its number, a word of a drive doesn't leave `patches`,
-        and a word that comes back there comes last."""
-        moved: list[str] = []
-        patches = [it for it in past.values if it[0] in PATCHES]
-        there = [it for it in {**self.values, **past.values} if it in patches]
-        if there != patches or past.events.keys() - self.events.keys():
+        """Edits that make that past of this one, but for how many numbers were given. None, if an
+        event would have to come back with its number, a word of a drive to leave `patches`, or a
+        word to come back there before others: edits can't do that."""
+        all_of_both = [it for it in {**self.values, **past.values} if it in past.values]
+        orders = ([it for it in those if it[0] in PATCHES] for those in (all_of_both, past.values))
+        if len({*map(tuple, orders)}) > 1 or past.events.keys() - self.events.keys():
             return None
-        for number in self.events.keys() - past.events.keys():
-            del self.events[number]
-            moved.append(f"drop {number}")
-        mine = self.in_turns()
-        moved += [line for it, lines in past.in_turns().items() if lines != mine[it] for line in lines]
+        new = self.events.keys() - past.events.keys()
+        self.events = {it: self.events[it] for it in self.events if it not in new}
+        moved, mine = [f"drop {it}" for it in new], self.in_turns()
+        for turn, lines in past.in_turns().items():
+            moved += lines if lines != mine[turn] else []
         for key in {**past.values, **self.values}:
             word, *names = key
             value = past.values.get(key, DELAYS.get(names[0]) if word == "delay" else None)

@@ -136,8 +136,8 @@ def change_lines(account: Account, what: Asked, turn: int) -> Iterator[str]:
 @command(
     "  or  ".join(f"why {it} [at N] [steps C] [places] [graph FILE]" for it in ASKED),
     r"((?P<register>[Rr][0-5]|[KUku]?[Ss][Pp]|[Pp][Ss]|[NZVC])|(?P<text>text)( <count:decimal>)?"
-    r"|(?P<disk>disk) ((?P<drive>[0-7]) )?<index:octal>|(core )?<address:address>)( at <turn:decimal>)?"
-    r"( steps <steps:decimal>)?(?P<places> places)?( graph <file:file>)?",
+    r"|(?P<disk>disk) ((?P<drive>[0-7]) )?<index:octal>|(core )?<address:address>)"
+    r"( at <turn:decimal>)?( steps <steps:decimal>)?(?P<places> places)?( graph <file:file>)?",
     "what a word, a register or the end of the text is made of",
 )
 def why(explorer: Explorer, arguments: Arguments) -> Iterator[str]:
@@ -146,10 +146,10 @@ def why(explorer: Explorer, arguments: Arguments) -> Iterator[str]:
     `at` the current turn. Each line has a value and `<-` the operation that made it. Below it
     stands what that was made of, and the part with the most behind it goes on at the same indent.
     Copies have no line, and many operations on one value have one, with what it was before them. At
-    the end stand the events that the value is made of. 'Made of' is of data: what a branch decided isn't followed, and at which
-    address a value was only with `places`. After 2000 steps, or C of `steps`, the rest isn't
-    followed, nor is a register further back than 20000 turns: both are said. `graph` writes the
-    steps as an SVG, and `why!` overwrites one."""
+    the end stand the events that the value is made of. 'Made of' is of data: what a branch decided
+    isn't followed, and at which address a value was only with `places`. After 2000 steps, or C of
+    `steps`, the rest isn't followed, nor is a register further back than 20000 turns: both are
+    said. `graph` writes the steps as an SVG, and `why!` overwrites one."""
     machine, turn = explorer.machine, arguments.decimal("turn", explorer.turn)
     what, most = asked(explorer, arguments, turn), arguments.decimal("steps", MOST_STEPS)
     if not most:

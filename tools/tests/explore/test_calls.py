@@ -218,15 +218,15 @@ class Calls(OnMachine):
             before, call = registers[turn], call_in(machine, turn)
             assert call is not None
             pc, sp = before.pc + 4 * (call.kind == "JSR"), before.words["KSP"]
-            wanted = next(
-                it for it in turns[turn + 1 :] if (registers[it].pc, registers[it].words["KSP"]) == (pc, sp)
-            )
+            place = {it: (registers[it].pc, registers[it].words["KSP"]) for it in turns}
+            wanted = next(it for it in turns[turn + 1 :] if place[it] == (pc, sp))
             self.assertEqual(self.goes_to(explorer, turn, "over to 999"), wanted, turn)
             explorer.turn = turn + 1
             list(COMMANDS["finish"].lines(explorer, "to 999"))
             self.assertEqual(explorer.turn, wanted, turn)
-            sought, parts = Return(machine, call), (turns[it : it + 7] for it in range(turn + 1, 999, 7))
-            self.assertEqual(next(filter(None, map(sought.first, parts))), wanted, turn)
+            parts = (turns[it : it + 7] for it in range(turn + 1, 999, 7))
+            found = filter(None, map(Return(machine, call).first, parts))
+            self.assertEqual(next(found), wanted, turn)
             loads += shadow.returned(turn, turns[turn + 1 :]) != wanted
         self.assertGreater(loads, 10)
 
@@ -235,8 +235,9 @@ class Calls(OnMachine):
         explorer = self.explorer("", core("12706 1000 4767 0 12706 1000 4767 0 777"))
         explorer.turn = 1
         lines = list(COMMANDS["over"].lines(explorer, "to 90"))
-        said = "KSP was loaded in turn 2, and the routine was left by that: PC isn't its return address"
-        self.assertEqual((lines[0], explorer.turn), (said, 3))
+        said = "KSP was loaded in turn 2, and the routine was left by that"
+        self.assertEqual(lines[0], f"{said}: PC isn't its return address")
+        self.assertEqual(explorer.turn, 3)
         explorer = self.explorer("", core("12706 1000 4767 0 12706 1000 777"))
         explorer.turn = 1
         (line,) = COMMANDS["over"].lines(explorer, "to 90")

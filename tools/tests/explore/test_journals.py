@@ -350,10 +350,10 @@ class ByEdits(OnMachine):
         event = chance.choice(("key {:o}", "tick", "switches {:o}")).format(chance.randrange(100))
         altered, turn = chance.randrange(1, events + 2), chance.randrange(5)
         word = chance.choice(("2000", "2002", "02000"))
-        kinds = (f"core {word} {turn}", f"uncore {word}", f"at {turn} {event}", "tape 1 2")
-        kinds += (f"disk {drive}{turn} 5", f"delay disk {turn}", f"delay clock {turn}", "tape 3")
-        kinds += (f"alter {altered} {turn} {event}",) * 4
-        rare = ("version 2", f"drop {altered}")
+        kinds = [f"core {word} {turn}", f"uncore {word}", f"at {turn} {event}", "tape 1 2"]
+        kinds += [f"disk {drive}{turn} 5", f"delay disk {turn}", f"delay clock {turn}", "tape 3"]
+        kinds += [f"alter {altered} {turn} {event}"] * 4
+        rare = ["version 2", f"drop {altered}"]
         return chance.choice(rare if chance.random() < 0.1 else kinds)
 
     def replies(self, edits: Sequence[str]) -> list[str]:
