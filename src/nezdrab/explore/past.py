@@ -106,16 +106,17 @@ class Made:
         """Edits that make that past of this one, but for how many numbers were given. None, if an
         event would have to come back with its number, a word of a drive to leave `patches`, or a
         word to come back there before others: edits can't do that."""
-        all_of_both = [it for it in {**self.values, **past.values} if it in past.values]
-        orders = ([it for it in those if it[0] in PATCHES] for those in (all_of_both, past.values))
-        if len({*map(tuple, orders)}) > 1 or past.events.keys() - self.events.keys():
+        patches = [it for it in past.values if it[0] in PATCHES]
+        both = {**self.values, **past.values}
+        there = [it for it in both if it[0] in PATCHES and it in past.values]
+        if there != patches or past.events.keys() - self.events.keys():
             return None
         new = self.events.keys() - past.events.keys()
         self.events = {it: self.events[it] for it in self.events if it not in new}
         moved, mine = [f"drop {it}" for it in new], self.in_turns()
         for turn, lines in past.in_turns().items():
             moved += lines if lines != mine[turn] else []
-        for key in {**past.values, **self.values}:
+        for key in {**past.values, **both}:
             word, *names = key
             value = past.values.get(key, DELAYS.get(names[0]) if word == "delay" else None)
             names = names[1:] if word == "disk" and ("version",) not in past.values else names
