@@ -283,8 +283,8 @@ class Return:
         return None
 
     def crossing(self, turns: range) -> Optional[int]:
-        """The first of these turns before which SP is above the call's words; or, once it was loaded
-        so, before which it isn't."""
+        """The first of these turns before which SP is above the call's words, or isn't any more, if
+        it was loaded so."""
         call = self.call
         if self.away is not None:
             below = f"where {pointer(call.inside)} < {call.slot + 1:o}"
