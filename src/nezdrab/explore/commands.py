@@ -283,9 +283,16 @@ def turn_range(arguments: Arguments, first: int = 0, turns: int = SEARCHED_TURNS
     return turns_between(begin, arguments.decimal("last", end))
 
 
-def searched_range(explorer: Explorer, arguments: Arguments) -> range:
-    """The turns of a search. Without `to` they go on to the greatest turn that was asked so far,
-    and then a million further."""
-    begin = arguments.decimal("first")
+def searched_range(explorer: Explorer, arguments: Arguments, first: int = 0) -> range:
+    """The turns of a search, without `from` those from `first` on. Without `to` they go on to the
+    greatest turn that was asked so far, and then a million further."""
+    begin = arguments.decimal("first", first)
     asked = max(0, explorer.machine.asked.greatest - begin)
-    return turn_range(arguments, turns=asked + SEARCHED_TURNS)
+    return turn_range(arguments, first, asked + SEARCHED_TURNS)
+
+
+def range_ahead(explorer: Explorer, arguments: Arguments) -> range:
+    """The same, but without `from` those behind the current turn. Behind turn 0, where explore
+    begins, they have that turn too."""
+    turn = explorer.turn
+    return searched_range(explorer, arguments, min(turn + 1, LAST_TURN) if turn else 0)

@@ -42,7 +42,7 @@ BLANKS = " \t"
 INTRODUCTION = "lines of the session language, and help, console, see, until ..; quit ends"
 OWN_HELP = {
     "help": ("help [TOPIC|WORD|all]", "what there is, or what the command WORD does"),
-    "quit": ("quit", "ends, as q, exit and Ctrl-D do; quit! drops edits that weren't saved"),
+    "quit": ("quit", "ends, as q, exit and Ctrl-D do, unless edits would be lost; quit! drops them"),
 }
 SEARCH_HELP = (
     "With N and M it is about the turns from N on and before M, with N alone about the machine "
@@ -148,8 +148,9 @@ class Prompt(Interpreter):
                 lines = self.lines_and_displays(line)
                 self.show(self.pager.pages(lines) if name in HELP and self.is_paged else lines)
         except Ended as ended:
-            self.end(ended.is_dropped)
-            return True
+            is_ended = self.end(ended.is_dropped)
+            self.is_stopped = not is_ended
+            return is_ended
         return False
 
     def begins(self, line: str) -> None:
@@ -201,18 +202,25 @@ class Prompt(Interpreter):
             self.show([f"{fault}; edits are in memory alone"])
         self.told_fault = fault
 
-    def end(self, is_dropped: bool = False) -> None:
-        """The journal stays if it has edits that weren't saved."""
-        machine = self.explorer.machine
-        if machine.file is None:
-            return
+    def end(self, is_dropped: bool = False) -> bool:
+        """Whether explore may end. The journal stays if it has edits that weren't saved; if it
+        can't be written, edits aren't dropped unasked."""
+        machine, file = self.explorer.machine, self.explorer.machine.file
+        if file is None:
+            return True
         count = sum(len(it.edits) for it in self.explorer.steps.done)
         if is_dropped or not count or machine.journal == self.explorer.saved:
-            machine.file.remove()
-        elif machine.file.place:
-            place = "" if machine.file.is_own else f" {shlex.quote(str(machine.file.place))}"
-            edits = counted(count, "edit")
-            self.show([f"the past isn't saved: ./explore --resume{place} takes up {edits}"])
+            file.remove()
+            return True
+        file.add(machine.journal, 0)  # what could be written by now
+        edits = counted(count, "edit")
+        if file.fault:
+            said = "save FILE keeps the past, quit! drops it"
+            self.show([f"{edits} not saved, and {file.fault}: {said}"])
+            return False
+        place = "" if file.is_own else f" {shlex.quote(str(file.place))}"
+        self.show([f"the past isn't saved: ./explore --resume{place} takes up {edits}"])
+        return True
 
     # Completion
 
@@ -408,8 +416,7 @@ def read_at_terminal(prompt: Prompt) -> None:
                 typed = typed_line(prompt.explorer.prompt)
         except EOFError:
             put("")
-            prompt.end()
-            break
+            is_last = prompt.end()
         except KeyboardInterrupt:
             put("^C")
         else:
@@ -428,3 +435,6 @@ def read_lines(prompt: Prompt) -> None:
         if text.strip(BLANKS):
             put(shown) if prompt.echo else LINES.note(shown)
         is_last = not line or prompt.onecmd(text)
+    file = prompt.explorer.machine.file
+    if file is not None and file.fault and not line:
+        prompt.end()

@@ -38,8 +38,9 @@ class Symbols:
 
     def take(self, found: Iterable[Symbol], modes: Sequence[Mode]) -> None:
         """Takes these in place of those there were. A constant has a number, and is the name of no
-        address."""
-        symbols = sorted(found, key=lambda it: (it.value, it.name))
+        address. Of two names of an address the last one is shown: in a listing it is that of what
+        begins there, and the other may be the end of what was before."""
+        symbols = sorted(found, key=lambda it: it.value)
         places = [it for it in symbols if not it.is_constant]
         for mode in modes:
             self.names = {key: name for key, name in self.names.items() if key[0] != mode}
