@@ -4,6 +4,8 @@ from typing import NamedTuple, Sequence
 
 from ..hardware import DELAYS
 
+from .replies import hash_of
+
 LINE_DEVICES = frozenset(DELAYS)
 MOST_EVENTS = 65_536  # of a script
 
@@ -47,6 +49,8 @@ class Setup:
     units: int
     start: int
     delays: dict[str, int]
+
+    __hash__ = hash_of
 
     @classmethod
     def of(cls, reply: str) -> "Setup":

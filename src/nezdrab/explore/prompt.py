@@ -259,8 +259,9 @@ class Prompt(Interpreter):
         if word in HELP:
             yield from self.help_lines(rest)
         elif is_own(word, rest) or self.is_instruction(word, rest):
-            OUTPUT.command, OUTPUT.overwrites = word.rstrip("!"), word[-1] == "!"
-            yield from COMMANDS[OUTPUT.command].lines(self.explorer, rest)
+            name = word.rstrip("!")
+            OUTPUT.way, OUTPUT.overwrites = f"{name}!", word != name
+            yield from COMMANDS[name].lines(self.explorer, rest)
         elif not is_of_language(word) and sentence(word, rest):
             raise ExploreError(sentence(word, rest))
         else:
