@@ -117,7 +117,7 @@ class Prompt(Interpreter):
         if not bare or line.startswith("#"):
             return False
         word = sessions.first_word(bare)
-        name = word.rstrip("!")
+        name = word.rstrip("!") or word
         self.explorer.depth = 0
         self.begins(bare)
         try:
@@ -272,7 +272,7 @@ class Prompt(Interpreter):
         name = word.rstrip("!")
         form = COMMANDS[name].pattern if is_own(word, rest) else None
         has_form = form is not None and form.fullmatch(rest.strip(BLANKS)) is not None
-        is_ours = has_form and not names_register(self.explorer, rest) or is_of_language(word)
+        is_ours = has_form and not names_register(self.explorer, word, rest) or is_of_language(word)
         led = "" if is_ours else led_on(self.explorer, word, rest)
         if led:
             raise ExploreError(led)

@@ -126,10 +126,9 @@ class Stopping(Case):
         """Nothing starts it again."""
         with self.machine() as machine:
             self.assertEqual(machine.regs(0).pc, 0o1000)
-        calls = (lambda: machine.regs(0), lambda: machine.at(5, "tick"))
-        for call in calls:
+        for line in "regs 0", "at 5 tick":
             with self.assertRaises(ProgramEnded) as caught:
-                call()
+                machine.edit(line) if line.startswith("at") else machine.ask(line)
             self.assertEqual(str(caught.exception), "the machine was closed")
         machine.close()
 

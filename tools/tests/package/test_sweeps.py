@@ -71,8 +71,8 @@ class Sweeps(Case):
             self.assertLess(len(taken), 40 + 32 * (processes + 2))
         tracemalloc.start()
         self.addCleanup(tracemalloc.stop)
-        swept = machine.sweep(1, range(10**8), question)
-        self.assertEqual([next(swept)[0] for _ in range(3000)], list(range(3000)))
+        many = machine.sweep(1, range(10**8), question)
+        self.assertEqual([next(many)[0] for _ in range(3000)], list(range(3000)))
         self.assertLess(tracemalloc.get_traced_memory()[1], 1_000_000)
 
     def test_what_cant_be_swept(self) -> None:
