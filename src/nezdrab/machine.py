@@ -8,7 +8,7 @@ import re
 import weakref
 from contextlib import contextmanager
 from pathlib import Path
-from typing import Any, Callable, Iterable, Iterator, NoReturn, Optional, Sequence, SupportsIndex
+from typing import Any, Iterable, Iterator, NoReturn, Optional, Sequence, SupportsIndex
 from typing import TypeVar, Union, overload
 
 from . import questions

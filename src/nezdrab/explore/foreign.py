@@ -32,6 +32,7 @@ CALLER = f"{CALLS}; `reverse-finish` goes back to the call of the current routin
 CONDITIONS = "`break A if R0 > 5` sets a breakpoint that holds under a condition"
 GONE = "`breakpoints` lists breakpoints, `delete N` takes one away, `delete` all"
 EXPECT = "`expect TEXT` goes on to where TEXT has been printed"
+ROUTINES = "`profile N M` shows in which routines the turns were"
 EVALUATE = "`list A 1` shows the word at A as an instruction"
 
 # Each sentence has lines to type, in `such quotes`. A command of explore comes before a word here.
@@ -61,7 +62,7 @@ FOREIGN = {
     "echo": "`# TEXT` is a comment in a script, and in the file of `log FILE`",
     "apropos": "`help all` lists all commands and lines, `help WORD` says what one does",
     "history": "`see N C` shows the C turns before turn N; nothing has to be switched on for it",
-    **dict.fromkeys(("gprof", "perf"), "`profile N M` shows in which routines the turns were"),
+    **dict.fromkeys(("gprof", "perf"), ROUTINES),
     "gcov": "`covered FILE` shows a listing with how often each line ran",
     **dict.fromkeys(("callgrind", "lcov", "vcd", "gtkwave", "flamegraph"), VIEWERS),
     **dict.fromkeys(("r", "g", "go", "ru", "j", "jump", "start", "advance", "u"), RUN),

@@ -9,7 +9,7 @@ from .. import sessions
 from .breaking import condition_in_words, condition_sought
 from .commands import Explorer
 from .errors import ExploreError
-from .foreign import CALLS, DISPLAYED, OVER, STAYS, STEP, sentence
+from .foreign import CALLS, DISPLAYED, OVER, ROUTINES, STAYS, STEP, sentence
 from .levels import pointer
 from .replies import SPACES, Mode, Registers
 from .symbols import ADDRESS
@@ -238,7 +238,7 @@ OF_GDB = {
     **{"display": "`display`", "registers": "`show`", "all-registers": "`show`"},
     **{"frame": "`calls`", "stack": "`calls`"},
     **dict.fromkeys(("symbol", "line"), "`list {address} 1` has the symbol beside the address"),
-    "functions": "`profile N M` shows in which routines the turns from N on and before M were",
+    "functions": ROUTINES,
     "variables": "`symbols FILE` reads names, and `dump A 1` shows the word at one",
 }
 
