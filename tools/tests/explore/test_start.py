@@ -40,3 +40,13 @@ class Start(Case):
         self.starts(HOME="relative")
         self.starts(HOME="/dev/null")
         self.assertEqual(self.kept_in(ROOT / "src"), before)
+
+    def test_pythons_own_modules_are_read_where_they_are(self) -> None:
+        """They are compiled there, and would be compiled at each start that can keep nothing."""
+        code = "import encodings, os, sys; sys.exit(not os.access(encodings.__cached__, os.R_OK))"
+        path = {"PATH": "/usr/bin:/bin"}
+        if subprocess.run(["python3", "-c", code], env=path).returncode:
+            self.skipTest("this Python has its library uncompiled")
+        self.starts(HOME=str(self.folder))
+        kept = self.folder.rglob("*.pyc")
+        self.assertEqual([it.name for it in kept if str(ROOT) not in str(it)], [])
