@@ -35,6 +35,7 @@ EXPECT = "`expect TEXT` goes on to where TEXT has been printed"
 ROUTINES = "`profile N M` shows in which routines the turns were"
 EVALUATE = "`list A 1` shows the word at A as an instruction"
 
+NAMING = ("watch", "rwatch", "display")  # a register is typed after these without $ too
 # Each sentence has lines to type, in `such quotes`. A command of explore comes before a word here.
 FOREIGN = {
     **dict.fromkeys(("b", "br"), BREAK),

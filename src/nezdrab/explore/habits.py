@@ -9,7 +9,7 @@ from .. import sessions
 from .breaking import condition_in_words, condition_sought
 from .commands import Explorer
 from .errors import ExploreError
-from .foreign import CALLS, DISPLAYED, OVER, ROUTINES, STAYS, STEP, sentence
+from .foreign import CALLS, DISPLAYED, NAMING, OVER, ROUTINES, STAYS, STEP, sentence
 from .levels import pointer
 from .replies import SPACES, Mode, Registers
 from .symbols import ADDRESS
@@ -276,7 +276,6 @@ HABITS: dict[str, Callable[[Asker, str], str]] = {
     **{"watch": partial(watch, word="watch"), "rwatch": partial(watch, word="rwatch")},
     **{"awatch": partial(watch, word="rwatch"), "display": displayed, "goto": gone_to},
 }
-WATCHES = ("watch", "rwatch", "display")  # a register is typed there without $ too
 
 
 def with_format(asker: Asker, word: str, rest: str) -> str:
@@ -295,7 +294,7 @@ def with_format(asker: Asker, word: str, rest: str) -> str:
 def names_register(explorer: Explorer, word: str, rest: str) -> bool:
     """Whether these words name a register as gdb does, `$pc`, and no symbol has this name."""
     found = [it for it in rest.split() if REGISTER.fullmatch(it)]
-    named = [it for it in found if it.startswith("$") or word in WATCHES and it == rest]
+    named = [it for it in found if it.startswith("$") or word in NAMING and it == rest]
     return any(not Asker(explorer).is_known(it) for it in named)
 
 
