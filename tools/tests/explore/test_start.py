@@ -65,7 +65,8 @@ class Commands(Case):
         modules = {name: it.run.__module__ for name, it in COMMANDS.items()}
         named = {it: f"nezdrab.explore.{name}" for it, name in COMMANDS.modules.items()}
         self.assertEqual(modules, named)
-        self.assertTrue(all(it.pattern.pattern for it in COMMANDS.values()))
+        for it in COMMANDS.values():
+            self.assertEqual(it.pattern.pattern, it.source)
 
     def test_none_is_read_at_the_start(self) -> None:
         """None but those that the prompt itself needs; and then the one that is typed."""
