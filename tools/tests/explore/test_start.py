@@ -73,7 +73,8 @@ class Commands(Case):
         code = (
             "import sys\nfrom nezdrab.explore import commands, main\n"
             "def show():\n"
-            "    print(*(it for it in commands.MODULES if f'nezdrab.explore.{it}' in sys.modules))\n"
+            "    read = [it for it in commands.MODULES if f'nezdrab.explore.{it}' in sys.modules]\n"
+            "    print(*read)\n"
             "show()\ncommands.COMMANDS['log']\nshow()\n"
         )
         command, path = [sys.executable, "-S", "-B", "-c", code], str(ROOT / "src")
