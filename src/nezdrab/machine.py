@@ -48,7 +48,8 @@ class Machine:
     (None: as long as it takes), TimedOut. Ctrl-C stops a question too. After each of these the
     machine goes on with all its edits: the next question runs its turns again.
 
-    A machine is for one thread. `close`, or the end of a `with`, ends its program."""
+    A machine is for one thread. `close`, the end of a `with`, or that nobody has the machine any
+    more ends its program."""
 
     symbols: Symbols
 

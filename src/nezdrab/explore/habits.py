@@ -252,8 +252,11 @@ def said(text: str) -> Callable[[Asker, str], str]:
 
 
 def displayed(asker: Asker, rest: str) -> str:
-    """`display $r0`."""
-    return "`display show` shows all registers after each move" if asker.register(rest) else ""
+    """`display $r0`, `display/x COUNT`."""
+    if asker.register(rest):
+        return "`display show` shows all registers after each move"
+    address = asker.address(rest)
+    return f"`display dump {address} 1` shows the word after each move" if address else ""
 
 
 def gone_to(asker: Asker, rest: str) -> str:

@@ -46,6 +46,8 @@ FIRST_LINES = (
     ("p $r0", "show"),
     ("display/i $pc", "display list"),
     ("display/x $r0", "display show"),
+    ("display/x COUNT", "display dump COUNT 1"),
+    ("display/x", "display list"),
     ("display $r0", "display show"),
     ("display r0", "display show"),
     ("disas 0x200", "list kernel 1000 16"),
