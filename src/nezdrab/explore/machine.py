@@ -108,7 +108,7 @@ class Machine:
     def begin(self) -> Program:
         """The program, started again if there is none."""
         if self.is_closed:
-            raise ProgramEnded("the program was closed")
+            raise ProgramEnded("the machine was closed")
         if self._running is None:
             self._running = self._started()
         return self._running
@@ -271,6 +271,8 @@ class Machine:
         try:
             yield
         except ProgramEnded as error:
+            if self.is_closed:
+                raise
             self.restart()
             raise ProgramEnded(f"{error}; the next line starts it again, with all edits") from error
         except BaseException as error:

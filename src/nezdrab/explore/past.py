@@ -6,6 +6,8 @@ from typing import NamedTuple, Optional, Sequence
 from ..hardware import DELAYS
 from ..sessions import words_of
 
+from .replies import hash_of
+
 LINE_DEVICES = frozenset(DELAYS)
 MOST_EVENTS = 65_536  # of a script
 PATCHES = ("core", "disk")
@@ -50,6 +52,8 @@ class Setup:
     units: int
     start: int
     delays: dict[str, int]
+
+    __hash__ = hash_of
 
     @classmethod
     def of(cls, reply: str) -> "Setup":

@@ -8,12 +8,6 @@ from typing import Iterable, Iterator, Optional, Sequence
 
 from .. import sessions
 
-# these add commands
-from . import compare, console, edits, export, listing, page, screen, script, search  # noqa: F401
-from . import breaking, calls, changes, covered, difference, dump, follow  # noqa: F401
-from . import accesses, lost, matters, profile, reads, seeing, stepping, sweep, why  # noqa: F401
-from . import images, load, simh  # noqa: F401
-from . import defining, display, do_file, expecting, log  # noqa: F401
 from .at_work import AtWork
 from .commands import COMMANDS, ENDS, PROMPT, Explorer, Interpreter
 from .completion import HELP, completions
@@ -22,8 +16,7 @@ from .display import displays_after_move
 from .errors import ExploreError, LineRefused
 from .fades import MOST_TURNS
 from .files import OUTPUT
-from .foreign import sentence
-from .habits import led_on, names_register
+from .foreign import NAMING, sentence
 from .in_words import counted
 from .interrupts import INTERRUPTS, typed_line
 from .journal import state_folder
@@ -33,7 +26,6 @@ from .machine import is_refused
 from .mapped import MAPPED_HELP, MAPPED_WORDS, in_core
 from .output import LINES, Unwritable, fault_in_words, flush, put
 from .pager import Pager, fit, paragraphs_of
-from .patching import is_instruction
 from .quotes import RULE
 from .topics import LINES as LINES_OF, TOPICS, command_lines, commands_of, forms_in_lines
 from .topics import SESSION, language_lines, search_lines
@@ -117,7 +109,7 @@ class Prompt(Interpreter):
         if not bare or line.startswith("#"):
             return False
         word = sessions.first_word(bare)
-        name = word.rstrip("!")
+        name = word.rstrip("!") or word
         self.explorer.depth = 0
         self.begins(bare)
         try:
@@ -267,8 +259,9 @@ class Prompt(Interpreter):
         if word in HELP:
             yield from self.help_lines(rest)
         elif is_own(word, rest) or self.is_instruction(word, rest):
-            OUTPUT.command, OUTPUT.overwrites = word.rstrip("!"), word[-1] == "!"
-            yield from COMMANDS[OUTPUT.command].lines(self.explorer, rest)
+            name = word.rstrip("!")
+            OUTPUT.way, OUTPUT.overwrites = f"{name}!", word != name
+            yield from COMMANDS[name].lines(self.explorer, rest)
         elif not is_of_language(word) and sentence(word, rest):
             raise ExploreError(sentence(word, rest))
         else:
@@ -276,16 +269,23 @@ class Prompt(Interpreter):
 
     def lead_on(self, word: str, rest: str) -> None:
         """An error that names a line, if this one has the form of gdb or SIMH, and none here."""
-        name = word.rstrip("!")
-        form = COMMANDS[name].pattern if is_own(word, rest) else None
+        form = COMMANDS[word.rstrip("!")].pattern if is_own(word, rest) else None
         has_form = form is not None and form.fullmatch(rest.strip(BLANKS)) is not None
-        is_ours = has_form and not names_register(self.explorer, rest) or is_of_language(word)
+        if is_of_language(word) or has_form and "$" not in rest and word not in NAMING:
+            return
+        from .habits import led_on, names_register  # which few lines need
+
+        is_ours = has_form and not names_register(self.explorer, word, rest)
         led = "" if is_ours else led_on(self.explorer, word, rest)
         if led:
             raise ExploreError(led)
 
     def is_instruction(self, word: str, rest: str) -> bool:
-        return word == "core" and is_instruction(rest, self.explorer.symbols)
+        if word != "core":
+            return False
+        from .patching import is_instruction  # which reads the assembler
+
+        return is_instruction(rest, self.explorer.symbols)
 
     def pass_on(self, line: str) -> Iterator[str]:
         machine = self.explorer.machine
