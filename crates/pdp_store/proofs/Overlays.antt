@@ -1,6 +1,6 @@
 -- Stamps laid over others, one after the other.
 use Rattle.std.proofs.Common.{◌≡◌, ◌≢◌, ◌⊎◌, inl, inr, subst, length-set, ◌∙◌, ℕ, suc, zero, ◌+◌, ◌-◌, ◌*◌, ◌<◌, ◌≤◌, Bool, false, List, [], ◌∷◌, ◌++◌, Option, Some, None, length, min, take, drop, get_or, slice_get, slice_set, refl, sym, ap, arith}
-use Rattle.std.proofs.lemmas.List.{append-nil, drop_all, length-append, length-drop, length-take, take_more, take_all}
+use Rattle.std.proofs.lemmas.List.{append-nil, drop_all, drop_at, length-append, length-drop, length-take, length-take-le, take_more, take_all}
 use Rattle.std.proofs.lemmas.Bool.{cases_eq}
 use Rattle.std.proofs.lemmas.List.Concat.{get_or-flat_map}
 use Rattle.std.proofs.lemmas.List.Folds.{length-flat_map-take}
@@ -11,7 +11,7 @@ use Rattle.pdp_store.specs.declared.base.Base.{Base}
 use Rattle.pdp_store.specs.Bases.{AreFields, Holds, IsBaseOf}
 use Rattle.pdp_store.specs.declared.page.Page.{Page}
 use Rattle.pdp_store.specs.Overlays.{laid_to, stamp_over, stamps_over}
-use Rattle.pdp_store.specs.Pages.{SharedPage, page_stamps, stamps_of, words_of}
+use Rattle.pdp_store.specs.Pages.{SharedPage, page_stamps, page_words, stamps_of, words_of}
 use Rattle.pdp_store.specs.Pieces.{piece}
 use Rattle.pdp_store.proofs.PageRuns.{set_here, set_there}
 use Rattle.pdp_store.proofs.PagedTakes.{as_stamped}
@@ -242,3 +242,33 @@ pub room_for_place : (pages : List SharedPage) (many place : ℕ) → many ≡ l
 room_for_place pages many place same below =
     let all = length-words_of pages in
     omega (arith, all, same, below)
+
+-- where the words of the first n pages end
+words_end : (pages : List SharedPage) (n at : ℕ) → n ≤ length pages → at ≡ length (flat_map page_words (take n pages)) → at ≡ n * 256
+unfolding words_of
+words_end pages n at within here =
+    let all : length (flat_map page_words (take n pages)) ≡ length (take n pages) * 256 = length-words_of (take n pages) in
+    let count : length (take n pages) ≡ n = length-take-le n pages within in
+    omega arith
+
+-- the words of the next place are those before, while the words of the pages before it are put
+pub words_left : (pages : List SharedPage) (n at : ℕ) (before now : List ℕ) → n ≤ length pages → at ≡ length (flat_map page_words (take n pages))
+    → now ≡ flat_map page_words (take n pages) ++ drop at before → piece n now ≡ piece n before
+unfolding piece
+words_left pages n at before now within here items =
+    let place = words_end pages n at within here in
+    ap (λ k. take 256 (drop k now)) (sym place)
+    ∙ ap (λ xs. take 256 (drop at xs)) items
+    ∙ ap (take 256) (drop_at (flat_map page_words (take n pages)) (drop at before) at (sym here))
+    ∙ ap (λ k. take 256 (drop k before)) place
+
+-- the words of the next place are those of its page already
+pub words_there : (pages : List SharedPage) (n at : ℕ) (now part : List ℕ) (page : SharedPage) → n ≤ length pages → at ≡ length (flat_map page_words (take n pages))
+    → part ≡ page_words page → piece n now ≡ page_words page → take (length part) (drop at now) ≡ part
+unfolding piece
+words_there pages n at now part page within here part_is same =
+    let full : length (page_words page) ≡ 256 = page.value.full in
+    ap (λ k. take k (drop at now)) (ap length part_is ∙ full)
+    ∙ ap (λ k. take 256 (drop k now)) (words_end pages n at within here)
+    ∙ same
+    ∙ sym part_is

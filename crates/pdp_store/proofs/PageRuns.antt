@@ -2,7 +2,7 @@
 use Rattle.std.proofs.Common.{◌≡◌, ◌≢◌, ◌⊎◌, inl, inr, ℕ, suc, zero, ◌+◌, ◌-◌, ◌*◌, ◌<◌, ◌≤◌, Bool, true, false, List, [], ◌∷◌, ◌++◌, Some, length, map, take, drop, get_or, slice_get, slice_set, refl, sym, ◌∙◌, ap, subst, arith, append-nil}
 use Rattle.std.proofs.lemmas.Bool.{cases_eq}
 use Rattle.std.proofs.lemmas.Grind.{flat_map-append}
-use Rattle.std.proofs.lemmas.List.{append_assoc, drop-drop, drop_all, drop_at, take_more, take_all, take_at, length-set, length-append, length-take-le, length-drop}
+use Rattle.std.proofs.lemmas.List.{append_assoc, drop-drop, drop_all, drop_at, take_more, take_all, take_at, length-set, length-append, length-take-le, length-drop, take-append-drop}
 use Rattle.std.proofs.lemmas.List.Folds.{length-flat_map-take}
 use Rattle.std.proofs.lemmas.Option.{slice_get_within}
 use Rattle.std.specs.List.{flat_map}
@@ -67,6 +67,14 @@ put_more f pages n at end before now part after page after_is end_is here items 
     ∙ ap (λ xs. done ++ (xs ++ drop end before)) part_is
     ∙ sym (append_assoc done (f page) (drop end before))
     ∙ ap (λ xs. xs ++ drop end before) (sym next)
+
+-- items that are there are put
+pub same_put : {X : Type 0} (at : ℕ) (part xs : List X) → take (length part) (drop at xs) ≡ part → xs ≡ with_items_at at part xs
+unfolding with_items_at
+same_put at part xs same =
+    sym (take-append-drop at xs)
+    ∙ ap (λ ys. take at xs ++ ys) (sym (take-append-drop (length part) (drop at xs)))
+    ∙ ap (λ ys. take at xs ++ (ys ++ drop (length part) (drop at xs))) same
 
 pub put_all : {X : Type 0} (f : SharedPage → List X) (pages : List SharedPage) (n at : ℕ) (before now : List X)
     → at ≡ length (flat_map f (take n pages)) → now ≡ flat_map f (take n pages) ++ drop at before

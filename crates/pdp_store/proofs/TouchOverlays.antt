@@ -30,6 +30,12 @@ more_laid turn (x ∷ under) (y ∷ over) (suc k) d e below same =
     let more : suc k + 1 ≡ suc (k + 1) = omega arith in
     rw more (ap (λ zs. touch_over turn x y ∷ zs) (more_laid turn under over k d e (omega arith) (omega arith)))
 
+-- an item is the one there, whatever it would be past the end
+pub read_there : (xs : List ℕ) (k d : ℕ) → get_or xs k d ≡ get_or xs k (get_or xs k d)
+read_there [] k d = refl
+read_there (x ∷ xs) zero d = refl
+read_there (x ∷ xs) (suc k) d = read_there xs k d
+
 -- one page more has its first touch
 pub page_laid_more : (from to : ℕ) (under over items : List ℕ) (k cut read now : ℕ) → k < length under → length over ≡ length under
     → items ≡ take k (touches_over from under (first_touches_before to over)) ++ drop k under

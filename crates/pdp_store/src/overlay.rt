@@ -11,7 +11,7 @@ ghost use Rattle.pdp_store.specs.Pages.{page_stamps, page_words, stamps_of, word
 use crate::LastStamp;
 use crate::base::Base;
 use crate::page::{PAGE_WORDS, Page};
-use crate::page_runs::{are_same_words, piece_at, stamps_in, words_in};
+use crate::page_runs::{are_same_words, piece_at, put_unless, stamps_in, words_in};
 use std::rc::Rc;
 
 /// A last stamp of this turn or a later one; otherwise the one under it.
@@ -106,29 +106,34 @@ fn lay_one(stamps: &mut [LastStamp], i: usize, over: LastStamp, turn: u32)
     }
 }
 
-/// Makes the bases those that fit the words of these pages, with their last stamps laid over these.
-/// It is called before the words and the stamps are changed.
+/// Makes the words those of these pages, and the bases those that fit them, with the pages' last
+/// stamps laid over these. It is called before the stamps are changed.
 ///
-/// A place whose words and stamps stay keeps its base. Otherwise its page becomes its base if the
-/// place will have the page's stamps; if not, the place is marked as written since.
-pub(crate) fn put_bases_over(
+/// A place whose words and stamps stay is left as it is. At each other place the page becomes the
+/// base if the place will have the page's stamps; if not, the place is marked as written since.
+#[tactic(auto, unfolding(crate::specs::Pages::words_of), using(crate::proofs::Rules::item_runs))]
+pub(crate) fn put_places_over(
     bases: &mut Vec<Base>,
     written: &mut Vec<bool>,
-    words: &[u16],
+    words: &mut [u16],
     stamps: &[LastStamp],
     pages: &[Rc<Page>],
     turn: u32,
 )
-    requires fields { AreFields words.now stamps.now bases.old.items written.old.items }
-    requires words { length (words_of pages.now) ≡ length words.now }
+    requires fields { AreFields words.old stamps.now bases.old.items written.old.items }
+    requires words { length (words_of pages.now) ≡ length words.old }
     requires stamps { length (stamps_of pages.now) ≡ length stamps.now }
-    ensures { AreFields (words_of pages.now) (stamps_over turn stamps.now (stamps_of pages.now))
-        bases.new.items written.new.items }
+    ensures words { words.new ≡ words_of pages.now }
+    ensures fields { AreFields (words_of pages.now)
+        (stamps_over turn stamps.now (stamps_of pages.now)) bases.new.items written.new.items }
 {
+    let mut at = 0;
     for place in 0..pages.len() {
         let page = &pages[place];
-        let (these, under) = (piece_at(words, place), piece_at(stamps, place));
-        if keeps_base(written[place], turn, these, under, page) {
+        let under = piece_at(stamps, place);
+        let stays = keeps_base(written[place], turn, piece_at(words, place), under, page);
+        at = put_unless(stays, words, at, words_in(page));
+        if stays {
             continue;
         }
         written[place] = !is_laid(turn, under, stamps_in(page), stamps_in(page));

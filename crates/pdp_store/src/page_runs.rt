@@ -1,6 +1,6 @@
 //! Pages in a row, and the arrays that they are taken from and put into.
 
-ghost use Rattle.std.specs.Prelude.{◌≡◌, ◌<◌, ◌≤◌, ◌+◌, ◌*◌, ◌↔◌, length, true};
+ghost use Rattle.std.specs.Prelude.{◌≡◌, ◌<◌, ◌≤◌, ◌+◌, ◌*◌, ◌↔◌, drop, length, take, true};
 ghost use Rattle.pdp_store.specs.Bases.{AreBases};
 ghost use Rattle.pdp_store.specs.Pages.{stamps_of, page_stamps, page_words, words_of};
 ghost use Rattle.pdp_store.specs.Pieces.{piece, with_items_at};
@@ -76,6 +76,21 @@ fn put_at<T: Copy>(items: &mut [T], at: usize, part: &[T]) -> usize
     end
 }
 
+/// Puts these items in place of as many from item `at` on, unless they are there, and returns where
+/// they end.
+#[inline(always)]
+pub(crate) fn put_unless<T: Copy>(are_there: bool, items: &mut [T], at: usize, part: &[T]) -> usize
+    requires room { at + length part.now ≤ length items.old }
+    requires same { are_there ≡ true → take (length part.now) (drop at items.old) ≡ part.now }
+    ensures items { items.new ≡ with_items_at at part.now items.old }
+    ensures end { result ≡ at + length part.now }
+{
+    if are_there {
+        return at + part.len();
+    }
+    put_at(items, at, part)
+}
+
 /// Makes each page the base of its place, and takes its mark away.
 pub(crate) fn put_bases(bases: &mut Vec<Base>, written: &mut Vec<bool>, pages: &[Rc<Page>])
     requires bases { length bases.old.items ≡ length pages.now }
@@ -101,9 +116,17 @@ pub(crate) fn have_words(words: &[u16], pages: &[Rc<Page>]) -> bool
     true
 }
 
-/// Whether two runs of words are the same.
+/// Whether two runs of words are the same. It has no exit before the end: so it takes several words
+/// at a time.
 pub(crate) fn are_same_words(some: &[u16], others: &[u16]) -> bool
     ensures { (result ≡ true) ↔ (some.now ≡ others.now) }
 {
-    some == others
+    if some.len() != others.len() {
+        return false;
+    }
+    let mut same = true;
+    for k in 0..some.len() {
+        same &= some[k] == others[k];
+    }
+    same
 }

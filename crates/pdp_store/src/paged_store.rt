@@ -13,7 +13,7 @@ ghost use Rattle.pdp_store.specs.Overlays.{stamps_over};
 ghost use Rattle.pdp_store.specs.Pieces.{piece};
 
 use crate::base::{Base, new_page};
-use crate::overlay::{lay_over, put_bases_over};
+use crate::overlay::{lay_over, put_places_over};
 use crate::page::{PAGE_WORDS, Page};
 use crate::page_runs::{have_words, piece_at, put_bases, put_stamps, put_words};
 use crate::touches::StoreTouches;
@@ -355,8 +355,8 @@ impl Paged {
     /// with stamps or without as this one. Of their last stamps those of turn `turn` and of later
     /// turns are laid over those that the store has. Takes no memory.
     ///
-    /// A place whose words and stamps stay keeps its base. Otherwise its page becomes its base if
-    /// the place then has the page's stamps.
+    /// A place whose words and stamps stay is left as it is, with its base. Otherwise its page
+    /// becomes its base if the place then has the page's stamps.
     pub fn load_pages_over(&mut self, pages: &[Rc<Page>], turn: u32)
         requires words { length (words_of pages.now) ≡ length self.old.words }
         requires stamps { length (stamps_of pages.now) ≡ length self.old.stamps }
@@ -366,16 +366,14 @@ impl Paged {
         ensures given { self.new.given ≡ self.old.given }
         ensures first_touches { self.new.first_touches ≡ self.old.first_touches }
     {
-        let words = &self.words;
-        put_bases_over(
+        put_places_over(
             &mut self.bases,
             &mut self.written,
-            words,
+            &mut self.words,
             &self.stamps,
             pages,
             turn,
         );
-        put_words(&mut self.words, pages);
         lay_over(&mut self.stamps, pages, turn);
     }
 

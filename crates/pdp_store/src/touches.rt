@@ -109,10 +109,7 @@ impl StoreTouches {
         requires { length over.now ≡ length self.old }
         ensures { self.new ≡ touches_over from self.old (first_touches_before to over.now) }
     {
-        for page in 0..self.first_touches.len() {
-            let over = kept_before(to, over[page]);
-            self.first_touches[page] = touch_over(from, self.first_touches[page], over);
-        }
+        lay_each(&mut self.first_touches, over, from, to);
     }
 
     /// Whether each page that was touched before turn `turn` in another store of as many pages was
@@ -129,6 +126,18 @@ impl StoreTouches {
             }
         }
         true
+    }
+}
+
+/// Lays these first touches over others, as [`StoreTouches::lay_over`] does.
+fn lay_each(firsts: &mut [u32], over: &[u32], from: u32, to: u32)
+    requires { length over.now ≡ length firsts.old }
+    ensures count { length firsts.new ≡ length firsts.old }
+    ensures laid { firsts.new ≡ touches_over from firsts.old (first_touches_before to over.now) }
+{
+    for page in 0..firsts.len() {
+        let over = kept_before(to, over[page]);
+        firsts[page] = touch_over(from, firsts[page], over);
     }
 }
 

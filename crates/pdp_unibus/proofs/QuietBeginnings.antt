@@ -1,5 +1,5 @@
 -- Turns that begin without events, and in which nothing else happens.
-use Rattle.std.proofs.Common.{◌≡◌, ℕ, ◌<◌, nat_lt, ◌&&◌, Bool, true, false, [], ap, ◌∙◌, subst, arith}
+use Rattle.std.proofs.Common.{◌≡◌, ℕ, ◌<◌, ◌≤◌, nat_lt, ◌&&◌, Bool, true, false, [], ap, ◌∙◌, subst, arith}
 use Rattle.std.proofs.lemmas.Bool.{and_parts}
 use Rattle.std.proofs.lemmas.Bool.Decides.{nat_tests}
 use Rattle.pdp_io_page.specs.Watch.{IsQuiet, IsWatched}
@@ -21,6 +21,11 @@ begun_quietly t w quiet =
 
       none : (step : Progress → Progress) {due : Bool} → due ≡ false → where_due due step start ≡ start
       none step is = ap (λ holds. where_due holds step start) is
+
+pub later_turn : (turn later : ℕ) (rest : Bool) → (nat_lt turn later && rest) ≡ true → turn ≤ later
+later_turn turn later rest quiet =
+    let before : turn < later = grind (arith, nat_tests, (and_parts (nat_lt turn later) rest quiet).0) in
+    omega (arith, before)
 
 pub quietly_begun : (t asked : ℕ) (v w : BusWorld) (watch : Watch) → v ≡ w → asked ≡ t → IsWatched v.turn v.io_page watch
     → (nat_lt v.turn t && nat_lt asked watch.wake) ≡ true → after_beginning t [] w ≡ at_start (in_turn t v)

@@ -11,6 +11,7 @@ ghost use Rattle.pdp_unibus.specs.SingleBytes.{IsSingle, StaysSingle};
 ghost use Rattle.pdp_unibus.specs.declared.beginning.Output.{Output};
 
 use crate::bus::Bus;
+use crate::direct::no_pages;
 use crate::event::Event;
 use pdp_io_page::Watch;
 use pdp_store::Store;
@@ -38,7 +39,7 @@ impl<S: Store, D: Store> Bus<S, D> {
         ensures { progress self.new result ≡ after_beginning turn events.now self.old }
     {
         self.watch = Watch::unknown();
-        self.turn = turn;
+        self.go_to(turn);
         let mut output = Output::default();
         self.take_events(events, &mut output);
         self.take_tick();
@@ -48,6 +49,18 @@ impl<S: Store, D: Store> Bus<S, D> {
         self.take_disk();
         self.refresh();
         output
+    }
+
+    /// The cycles from now on are those of this turn.
+    #[tactic(auto, using(crate::proofs::Directs::direct_later))]
+    fn go_to(&mut self, turn: u32)
+        ensures { self.new ≡ record self.old { turn = turn } }
+    {
+        if turn < self.turn {
+            self.direct = no_pages();
+        }
+        self.watch = Watch::unknown();
+        self.turn = turn;
     }
 
     /// Begins this turn without events if the bus knows that nothing happens in its beginning, and
@@ -179,7 +192,7 @@ impl<S: Store, D: Store> Bus<S, D> {
         ensures single { StaysSingle self.old.io_page self.new.io_page }
     {
         self.watch = Watch::unknown();
-        self.direct_words = 0;
+        self.direct = no_pages();
         self.io_page
             .disk
             .complete(&mut self.core, &mut self.drives, self.turn);

@@ -5,6 +5,7 @@ ghost use Rattle.pdp_store.specs.CycleLogs.{without_cycles, no_log};
 ghost use Rattle.pdp_unibus.specs.Handbook.BusWorld.{with_log};
 
 use crate::bus::Bus;
+use crate::direct::no_pages;
 use pdp_store::{BusCycle, CycleLog, Logging, Paged, PagedDrive, Store};
 
 impl<S: Store, D: Store> Bus<S, D> {
@@ -14,7 +15,7 @@ impl<S: Store, D: Store> Bus<S, D> {
     {
         Bus {
             turn: self.turn,
-            direct_words: self.direct_words,
+            direct: no_pages(),
             core: Logging {
                 store: self.core,
                 log,
@@ -52,7 +53,7 @@ impl Bus<Logging<Paged>, PagedDrive> {
         let core = self.core;
         Bus {
             turn: self.turn,
-            direct_words: self.direct_words,
+            direct: no_pages(),
             core: core.store,
             drives: self.drives,
             io_page: self.io_page,
