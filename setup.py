@@ -1,20 +1,33 @@
-"""Adds the programs and the page to the package, as release/ has them. On Linux on x86-64 the wheel
-is one of that system, whatever its C library. Elsewhere, or with NEZDRAB_WHEEL=any in the
-environment, it is one of any system, whose programs are the WebAssembly modules, run by node."""
+"""Adds the programs, the page and NOTICES to the package. On Linux on x86-64 the wheel is one of
+that system, whatever its C library. Elsewhere, or with NEZDRAB_WHEEL=any in the environment, it is
+one of any system, whose programs are the WebAssembly modules, run by node. A 32-bit Python on Linux
+on x86-64 gets a wheel of its own system, with the programs of x86-64."""
 import hashlib
 import os
 import platform
 import shutil
+import subprocess
 import sys
 from pathlib import Path
 
+import setuptools
 from setuptools import Distribution, setup
 from setuptools.command.build_py import build_py
 
+LEAST_SETUPTOOLS = 61  # which reads the package's name and version in pyproject.toml
+if int(setuptools.__version__.split(".")[0]) < LEAST_SETUPTOOLS:
+    raise SystemExit(
+        f"nezdrab is made by setuptools {LEAST_SETUPTOOLS} or later, and this is"
+        f" {setuptools.__version__}: pip install --upgrade setuptools, or leave out"
+        " --no-build-isolation"
+    )
 try:
     from setuptools.command.bdist_wheel import bdist_wheel
 except ImportError:  # setuptools before 70.1
-    from wheel.bdist_wheel import bdist_wheel
+    try:
+        from wheel.bdist_wheel import bdist_wheel
+    except ImportError:
+        raise SystemExit("nezdrab is made by setuptools with wheel: pip install wheel") from None
 
 ROOT = Path(__file__).resolve().parent
 NAMES = ("pdp11", "search", "disassemble")
@@ -27,10 +40,21 @@ BY_NODE = (
 TAG = "manylinux1_x86_64.musllinux_1_1_x86_64"
 
 
+IS_64_BIT = sys.maxsize > 2**32
+
+
 def runs_programs() -> bool:
-    """Whether the release files run on this system, and its Python takes a wheel of that."""
-    is_system = sys.platform == "linux" and platform.machine() == "x86_64"
-    return is_system and sys.maxsize > 2**32
+    """Whether the release files run on this system. On a 64-bit kernel they run beside a 32-bit
+    Python too."""
+    if sys.platform != "linux" or platform.machine() not in ("x86_64", "i686", "i586", "i386"):
+        return False
+    if IS_64_BIT:
+        return True
+    program = [str(ROOT / "release" / "pdp11-linux-x86_64"), "--help"]
+    try:
+        return subprocess.run(program, stdout=subprocess.DEVNULL).returncode == 0
+    except OSError:
+        return False
 
 
 NATIVE = runs_programs() and os.environ.get("NEZDRAB_WHEEL") != "any"
@@ -76,20 +100,24 @@ class BuildWithPrograms(build_py):
         super().run()
         folder = Path(self.build_lib) / "nezdrab" / "programs"
         files = native_files() if NATIVE else files_for_node()
-        for name, path in {**files, PAGE: ROOT / "release" / PAGE}.items():
+        files.update({PAGE: ROOT / "release" / PAGE, "NOTICES": ROOT / "NOTICES"})
+        for name, path in files.items():
             (folder / name).parent.mkdir(parents=True, exist_ok=True)
             shutil.copy(path, folder / name)
-            (folder / name).chmod(0o644 if path.suffix else 0o755)
+            is_program = not path.suffix and name != "NOTICES"
+            (folder / name).chmod(0o755 if is_program else 0o644)
 
 
 class WheelOfSystem(bdist_wheel):
     """A wheel for any Python 3 of the system."""
 
     def get_tag(self) -> "tuple[str, str, str]":
-        return ("py3", "none", TAG) if NATIVE else super().get_tag()
+        tag = super().get_tag()
+        return ("py3", "none", TAG if IS_64_BIT else tag[2]) if NATIVE else tag
 
 
 setup(
+    license="MIT OR Apache-2.0",
     distclass=WithPrograms,
     cmdclass={"build_py": BuildWithPrograms, "bdist_wheel": WheelOfSystem},
 )

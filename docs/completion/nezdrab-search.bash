@@ -1,4 +1,4 @@
-# Made by tools/make-manual: completes the options and the sessions of nezdrab-search.
+# Made by tools/make-manual: completes the options and files of nezdrab-search.
 _nezdrab_search() {
     local options='--core
 --disk
@@ -14,7 +14,8 @@ _nezdrab_search() {
 --start
 --stride
 -h
---help'
+--help
+--version'
     local word=${COMP_WORDS[COMP_CWORD]} before=${COMP_WORDS[COMP_CWORD - 1]} IFS=$'\n'
     if [[ $word == = ]]; then
         word=

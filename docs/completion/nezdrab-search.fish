@@ -1,4 +1,4 @@
-# Made by tools/make-manual: completes the options and the sessions of nezdrab-search.
+# Made by tools/make-manual: completes the options and files of nezdrab-search.
 complete -c nezdrab-search -f
 complete -c nezdrab-search -l core -r -F -d 'Words of core from address 0 on [default: zeros]'
 complete -c nezdrab-search -l disk -r -F -d 'Words of the drive from word 0 on [default: zeros]'
@@ -14,3 +14,4 @@ complete -c nezdrab-search -l units -x -d 'Units of core of 4096 words, 1 to 31 
 complete -c nezdrab-search -l start -x -d 'Start address, octal and even [default: 1000]'
 complete -c nezdrab-search -l stride -x -d 'Turns between kept states, 1 to 2000000000 [default: 10000]'
 complete -c nezdrab-search -s h -l help -d 'Print help'
+complete -c nezdrab-search -l version -d 'Print the newest release'

@@ -1,5 +1,5 @@
 #compdef nezdrab-search
-# Made by tools/make-manual: completes the options and the sessions of nezdrab-search.
+# Made by tools/make-manual: completes the options and files of nezdrab-search.
 _arguments \
   '--core=[Words of core from address 0 on \[default\: zeros\]]:FILE:_files' \
   '--disk=[Words of the drive from word 0 on \[default\: zeros\]]:FILE:_files' \
@@ -14,4 +14,5 @@ _arguments \
   '--units=[Units of core of 4096 words, 1 to 31 \[default\: 31\]]:N: ' \
   '--start=[Start address, octal and even \[default\: 1000\]]:A: ' \
   '--stride=[Turns between kept states, 1 to 2000000000 \[default\: 10000\]]:N: ' \
-  '(-h --help)'{-h,--help}'[Print help]'
+  '(-h --help)'{-h,--help}'[Print help]' \
+  '--version[Print the newest release]'

@@ -7,7 +7,7 @@ from .tables import Option, Program
 
 WIDTH = 80
 FILES = ("FILE", "FOLDER")  # the values that are paths
-HEAD = "# Made by tools/make-manual: completes the options and the sessions of {name}."
+HEAD = "# Made by tools/make-manual: completes the options and files of {name}."
 BASH = """\
 {head}
 {function}() {{
@@ -19,13 +19,7 @@ BASH = """\
         before=${{COMP_WORDS[COMP_CWORD - 2]}}
     fi
     case $before in
-    {of_files})
-        COMPREPLY=($(compgen -f -- "$word"))
-        ;;
-    {of_others})
-        COMPREPLY=()
-        ;;
-    *)
+{of_files}{of_others}    *)
         if [[ $word == -* ]]; then
             COMPREPLY=($(compgen -W "$options" -- "$word"))
         else
@@ -34,7 +28,7 @@ BASH = """\
         ;;
     esac
 }}
-complete -o filenames -F {function} {name} ./{here}
+complete -o filenames -F {function} {name}{here}
 """
 BASH_SESSIONS = """$(compgen -f -X '!*.session' -- "$word"; compgen -d -- "$word")"""
 
@@ -52,6 +46,11 @@ def pattern(names: list[str]) -> str:
     return textwrap.fill(" | ".join(names), WIDTH).replace("\n", " \\\n        ")
 
 
+def arm(names: list[str], reply: str) -> str:
+    """What is replied behind one of these names."""
+    return f"    {pattern(names)})\n        COMPREPLY=({reply})\n        ;;\n" if names else ""
+
+
 def bash(program: Program) -> str:
     """A function of bash, which takes no package beside it."""
 
@@ -61,12 +60,12 @@ def bash(program: Program) -> str:
     return BASH.format(
         head=head(program),
         function=f"_{program.name.replace('-', '_')}",
-        of_files=pattern(names(lambda it: it.value in FILES)),
-        of_others=pattern(names(lambda it: it.value not in ("", *FILES))),
+        of_files=arm(names(lambda it: it.value in FILES), '$(compgen -f -- "$word")'),
+        of_others=arm(names(lambda it: it.value not in ("", *FILES)), ""),
         options="\n".join(names(lambda it: True)),
         rest=BASH_SESSIONS if program.takes_session else "",
         name=program.name,
-        here=program.here,
+        here=program.here and f" ./{program.here}",
     )
 
 

@@ -1,7 +1,8 @@
 """make-manual [--check]: makes the manual pages of the programs, docs/manual/NAME.1, and what
 completes their options and session files in bash, zsh and fish, docs/completion/NAME.SHELL. SIMH
-has a command pdp11, so NAME is nezdrab for pdp11, nezdrab-search and nezdrab-explore. All comes
-from the tables that the programs' help is compared with, and from explore's own.
+has a command pdp11, so NAME is nezdrab for pdp11, and nezdrab-search, nezdrab-explore,
+nezdrab-disassemble and nezdrab-dap. All comes from the tables that the programs' help is compared
+with, from the stored help of disassemble, and from the parsers of explore and of the adapter.
 
 With --check nothing is made: is each file the one that would be made? If man or mandoc is here, it
 must find nothing wrong with a page, and so must each shell with its completion. The last line is

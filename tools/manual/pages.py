@@ -119,13 +119,17 @@ def body(program: Program) -> Iterator[str]:
     yield section("DESCRIPTION")
     for number, paragraph in enumerate(program.paragraphs):
         yield from [".PP"] if number else []
-        yield from prose(" ".join(paragraph.split()))
+        if paragraph.startswith(" "):
+            yield from (".nf", f"\\&{escaped(paragraph)}", ".fi")
+        else:
+            yield from prose(" ".join(paragraph.split()))
     yield section("OPTIONS")
     yield from items((form_of(it), it.summary) for it in program.options)
     yield from commands() if program.takes_session else ()
-    yield from lines_of_session()
-    yield from () if program.here == "pdp11" else lines_of_searches()
-    yield from refusals()
+    if program.has_language:
+        yield from lines_of_session()
+        yield from () if program.here == "pdp11" else lines_of_searches()
+        yield from refusals()
     yield section("EXIT STATUS")
     yield from items((it.status, it.when) for it in program.endings)
 

@@ -3,11 +3,13 @@ is installed, its options, and how it ends. SIMH has a command pdp11, so the nam
 The options are those of the stored help, which the gate compares with the programs, and those of
 explore's own parser."""
 import argparse
+import itertools
 import re
 from dataclasses import dataclass
 from pathlib import Path
 
-from nezdrab.explore.main import DESCRIPTION, new_parser
+from nezdrab.explore import main
+from nezdrab.explore.dap import server
 
 ROOT = Path(__file__).resolve().parents[2]
 OPTION = re.compile(r"  (?:(-\w), |    )(--\w+)(?: <(\w+)>)? +(\S.*)")
@@ -36,8 +38,8 @@ class Ending:
 
 @dataclass(frozen=True)
 class Program:
-    """A program: its name when it is installed, and in the repository; what it is, in a line, and
-    in paragraphs."""
+    """A program: its name when it is installed, and in the repository, if it has one there; what it
+    is, in a line, and in paragraphs, of which an indented one is an example."""
 
     name: str
     here: str
@@ -46,6 +48,7 @@ class Program:
     options: list[Option]
     endings: list[Ending]
     takes_session: bool = False
+    has_language: bool = True
 
 
 def text_of(path: str) -> str:
@@ -61,11 +64,11 @@ def options_of_help(text: str) -> list[Option]:
     return [Option(it[2], it[1] or "", it[3] or "", True, it[4]) for it in found]
 
 
-def options_of_explore(of_program: list[Option]) -> list[Option]:
-    """The options of explore; those of the program have its words."""
-    summaries = {it.name: it.summary for it in of_program}
+def options_of_parser(parser: argparse.ArgumentParser, others: list[Option]) -> list[Option]:
+    """The options of a parser; those of another program have its words."""
+    summaries = {it.name: it.summary for it in others}
     found = []
-    for it in new_parser()._actions:
+    for it in parser._actions:
         if not it.option_strings:
             continue
         *short, name = it.option_strings
@@ -89,6 +92,20 @@ OF_EXPLORE = [
     Ending("3", "standard output was closed before all of it was written"),
     Ending("130", "Ctrl-C ended it"),
 ]
+OF_ADAPTER = [
+    Ending("0", "the editor ended it"),
+    Ending("1", "it can't begin or go on; standard error says why"),
+    Ending("2", "the arguments are wrong, or standard input is a terminal"),
+    Ending("130", "Ctrl-C ended it"),
+]
+OF_DISASSEMBLE = [
+    Ending("0", "end of input, or help was asked for"),
+    Ending("2", "the arguments are wrong"),
+    Ending("3", "the input can't be read, or the output can't be written"),
+    Ending("4", "out of memory"),
+]
+# Which tools/start has, and the help of the program doesn't show.
+VERSION = Option("--version", "", "", False, "Print the newest release")
 
 
 def programs() -> list[Program]:
@@ -98,7 +115,7 @@ def programs() -> list[Program]:
     options = options_of_help(of_pdp11)
     endings = endings_of_language()
     lines_in = "Lines of a session come on standard input, each has its reply on standard output."
-    described = re.split(r"\n\n|\n(?=\./)", DESCRIPTION)
+    described = re.split(r"\n\n|\n(?=\./)", main.DESCRIPTION)
     return [
         Program("nezdrab", "pdp11", heading(of_pdp11), [lines_in], options, endings),
         Program(
@@ -106,7 +123,7 @@ def programs() -> list[Program]:
             "search",
             heading(of_search),
             [f"{lines_in} Beside the lines of nezdrab(1) there are those that search its turns."],
-            options_of_help(of_search),
+            [*options_of_help(of_search), VERSION],
             endings,
         ),
         Program(
@@ -114,11 +131,40 @@ def programs() -> list[Program]:
             "explore",
             "a prompt over the session language of a PDP-11/40 whose past can be edited",
             [it.replace("./explore", "nezdrab-explore") for it in described],
-            options_of_explore(options),
+            options_of_parser(main.new_parser(), options),
             OF_EXPLORE,
             takes_session=True,
         ),
+        disassembler(),
+        adapter(),
     ]
+
+
+def disassembler() -> Program:
+    text = text_of("rows/program/disassemble.help")
+    lines = text.split("\n\n", 3)[3].splitlines()
+    parts = itertools.groupby(lines, lambda it: it.startswith(" "))
+    return Program(
+        "nezdrab-disassemble",
+        "disassemble",
+        heading(text),
+        ["\n".join(part) for _, part in parts],
+        [*options_of_help(text), VERSION],
+        OF_DISASSEMBLE,
+        has_language=False,
+    )
+
+
+def adapter() -> Program:
+    return Program(
+        "nezdrab-dap",
+        "",
+        "what an editor starts to debug in a recorded run of a PDP-11/40",
+        [server.DESCRIPTION, "`nezdrab-explore dap` is the same."],
+        options_of_parser(server.new_parser(), []),
+        OF_ADAPTER,
+        has_language=False,
+    )
 
 
 def heading(text: str) -> str:

@@ -87,6 +87,11 @@ def release() -> str:
     return found
 
 
+def version_of(name: str) -> str:
+    """What --version shows of a program, which may be newer than the release that it names."""
+    return f"{name} of Nezdrab, release {release()} or later"
+
+
 class ShowVersion(argparse.Action):
     """The option --version, which ends explore as --help does."""
 
@@ -94,7 +99,7 @@ class ShowVersion(argparse.Action):
         super().__init__(option_strings, dest, nargs=0, **more)
 
     def __call__(self, parser: argparse.ArgumentParser, *ignored: Any) -> None:
-        put(f"explore of Nezdrab, release {release()} or later")
+        put(version_of(parser.prog))
         parser.exit()
 
 

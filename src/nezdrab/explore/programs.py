@@ -41,7 +41,8 @@ def found_program(name: str) -> str:
 
 
 def program_of_clone(root: Path, name: str) -> str:
-    command = [str(root / "tools" / "program"), name]
+    quiet = ["--quiet"] if name == "disassemble" else []  # what search says holds for both
+    command = [str(root / "tools" / "program"), *quiet, name]
     found = subprocess.run(command, stdin=subprocess.DEVNULL, stdout=subprocess.PIPE)
     if found.returncode:
         raise ExploreError(f"there is no program {name}")
@@ -56,12 +57,20 @@ def by_another_python(statements: str) -> list[str]:
 
 def own_command() -> str:
     """How explore is started."""
-    return "nezdrab-explore" if clone() is None else "./explore"
+    root = clone()
+    is_installed = root is None or (root / "INSTALLED").exists()  # which tools/release put there
+    return "nezdrab-explore" if is_installed else "./explore"
 
 
 def become(program: str, command: str) -> NoReturn:
-    """Runs the program of this name in the place of this process, under the name of the command."""
+    """Runs the program of this name in the place of this process, under the name of the command.
+    What has no option --version of its own shows that of the package; pdp11 has none."""
     try:
+        if program != "pdp11" and sys.argv[1:] == ["--version"]:
+            from .options import version_of  # which takes a while to read
+
+            print(version_of(program), flush=True)
+            sys.exit(0)
         os.execv(found_program(program), [command, *sys.argv[1:]])
     except (ExploreError, OSError) as error:
         print(f"{command}: {error}", file=sys.stderr)

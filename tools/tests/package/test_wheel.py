@@ -13,7 +13,10 @@ import nezdrab
 
 from .common import EXAMPLES, ROOT, Case
 
-NAMES = ("pyproject.toml", "setup.py", "MANIFEST.in", "README.md", "CHANGELOG.md")
+NAMES = (
+    *("pyproject.toml", "setup.py", "MANIFEST.in", "README.md", "CHANGELOG.md"),
+    *("LICENSE-MIT", "LICENSE-APACHE", "NOTICES"),
+)
 FOLDERS = ("src", "release", "tools/by-node", "web")
 INSTALL = ("-m", "pip", "install", "--quiet", "--no-index", "--no-deps")
 MAKING = """\
@@ -21,6 +24,21 @@ import sys
 from setuptools import build_meta
 print(build_meta.build_sdist(sys.argv[1]) if sys.argv[2] == "sdist" else
       build_meta.build_wheel(sys.argv[1]))
+"""
+# Runs setup.py with another version of setuptools, or without wheel.
+OTHER_SETUPTOOLS = """\
+import sys, setuptools
+setuptools.__version__ = "52.0.0"
+sys.argv = ["setup.py", "--version"]
+exec(compile(open("setup.py").read(), "setup.py", "exec"), {"__file__": "setup.py"})
+"""
+# What Python reads first: this one is of 32 bits.
+OF_32_BITS = "import sys\nsys.maxsize = 2**31 - 1\n"
+METADATA = """\
+from importlib import metadata
+it = metadata.metadata("nezdrab")
+print(it["Summary"], it["Author"], it["License"] or it["License-Expression"], it["Keywords"])
+print(*it.get_all("Classifier"), sep="\\n")
 """
 USING = """\
 import importlib, pkgutil, sys
@@ -71,6 +89,24 @@ class Wheel(Case):
         self.assertEqual(ran.returncode, 0, ran.stdout + ran.stderr)
         return ran.stdout
 
+    def test_a_setuptools_that_is_older(self) -> None:
+        """It would make a package that has no name."""
+        ran = subprocess.run(
+            [sys.executable, "-c", OTHER_SETUPTOOLS], cwd=ROOT, capture_output=True, text=True
+        )
+        self.assertEqual((ran.returncode, ran.stdout), (1, ""))
+        said = "^nezdrab is made by setuptools 61 or later, and this is 52[.]0[.]0: [^\n]*\n$"
+        self.assertRegex(ran.stderr, said)
+
+    def test_a_python_of_32_bits(self) -> None:
+        """On a 64-bit kernel the programs of x86-64 run beside it."""
+        (self.room / "sitecustomize.py").write_text(OF_32_BITS)
+        wheel = self.made(self.sources, "wheel", PYTHONPATH=str(self.room))
+        self.assertRegex(wheel.name, "-py3-none-linux_i686.whl$")
+        with zipfile.ZipFile(wheel) as archive:
+            program = archive.read("nezdrab/programs/search")
+            self.assertEqual(program, (ROOT / "release/search-linux-x86_64").read_bytes())
+
     def made(self, sources: Path, kind: str, **more: str) -> Path:
         out = self.folder / kind
         out.mkdir()
@@ -90,16 +126,24 @@ class Wheel(Case):
         package = ROOT / "src" / "nezdrab"
         files = [*package.rglob("*.py"), package / "py.typed"]
         programs = ("pdp11", "search", "disassemble", "nezdrab.html")
-        files += [package / "programs" / it for it in programs]
+        files += [package / "programs" / it for it in (*programs, "NOTICES")]
         self.assertEqual({str(it.relative_to(ROOT / "src")) for it in files} - names, set())
+        licences = {it.rpartition("/")[2] for it in names if ".dist-info/" in it}
+        self.assertLessEqual({"LICENSE-MIT", "LICENSE-APACHE"}, licences)
         self.run_in(self.room, sys.executable, "-m", "venv", str(self.away))
         python, explore = (str(self.away / "bin" / it) for it in ("python", "nezdrab-explore"))
         self.run_in(self.room, python, *INSTALL, str(wheel))
         self.check_package(self.run_in(self.room, python, "-c", USING, "my.session"))
+        shown = self.run_in(self.room, python, "-c", METADATA)
+        self.assertIn(" The Nezdrab authors MIT OR Apache-2.0 PDP-11,emulator,", shown)
+        self.assertIn("\nTopic :: System :: Emulators\n", shown)
         self.assertIn("release 20", self.run_in(self.room, explore, "--version"))
         shown = self.run_in(self.room, explore, "my.session", given="last 40 2000\nsee 20 1\n")
         self.assertIn("last 19 cpu 000107", shown)
         self.assertIn("ADD #7,@#2000", shown)
+        for name in "search", "disassemble":
+            said = self.run_in(self.room, str(self.away / "bin" / f"nezdrab-{name}"), "--version")
+            self.assertEqual(said, f"{name} of Nezdrab, release {nezdrab.__version__} or later\n")
         for command in ("nezdrab", "nezdrab-search"):
             shown = self.run_in(self.room, str(self.away / "bin" / command), given="regs 0\n")
             self.assertIn("PC 001000", shown)

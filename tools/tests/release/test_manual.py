@@ -2,6 +2,7 @@
 import contextlib
 import io
 import os
+import re
 import shutil
 import subprocess
 import tempfile
@@ -14,6 +15,7 @@ import sessions
 from nezdrab.explore.commands import COMMANDS
 from manual import made
 from manual.tables import programs
+from tests import under_test
 
 from .tree import ROOT, SECONDS
 
@@ -57,6 +59,9 @@ class Completed(InAFolder):
         self.assertEqual(self.replies("nezdrab-search", "--t"), ["--tape"])
         self.assertEqual(self.replies("nezdrab-explore", "--ver"), ["--version"])
         self.assertEqual(self.replies("nezdrab", "--ver"), [])
+        for name in "nezdrab-search", "nezdrab-disassemble", "nezdrab-dap":
+            self.assertEqual(self.replies(name, "--ver"), ["--version"])
+        self.assertEqual(self.replies("nezdrab-dap", "--program", "im"), ["image.disk"])
 
     def test_each_option(self) -> None:
         for program in programs():
@@ -97,6 +102,17 @@ class Pages(unittest.TestCase):
             self.assertIn(line.summary, shown["nezdrab-explore"])
         for own in COMMANDS.values():
             self.assertIn(own.summary.replace("`", ""), shown["nezdrab-explore"])
+
+
+    def test_each_command_has_one(self) -> None:
+        scripts = re.findall(r"^(nezdrab[\w-]*) = ", (ROOT / "pyproject.toml").read_text(), re.M)
+        self.assertEqual({it.name for it in programs()}, set(scripts))
+
+    def test_help_of_disassemble(self) -> None:
+        """The page shows what is stored, and that is what the program shows."""
+        program, command = under_test.program("disassemble"), ["disassemble", "--help"]
+        ran = subprocess.run(command, executable=program, stdout=subprocess.PIPE, text=True)
+        self.assertEqual(ran.stdout, (ROOT / "rows/program/disassemble.help").read_text())
 
 
 class Made(InAFolder):

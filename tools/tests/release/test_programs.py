@@ -5,6 +5,7 @@ import shutil
 import signal
 import subprocess
 import unittest
+from unittest import mock
 
 from checks import by_node
 from pseudo_terminal import PseudoTerminal
@@ -86,9 +87,38 @@ class Found(Tree):
 
     def test_another_system(self) -> None:
         self.make_release()
-        self.write("../bin/uname", OTHER_SYSTEM, 0o755)
         self.path = path_without(self.folder, "rt", "node")
-        self.assertRefuses("darwin-arm64", "Linux on x86-64", "or install node, 16 or later")
+        for system, machine in ("Darwin", "arm64"), ("Linux", "riscv64"):
+            text = OTHER_SYSTEM.replace("Darwin", system).replace("arm64", machine)
+            self.write("../bin/uname", text, 0o755)
+            words = ("Linux on x86-64 and ARM64", "tools/portable --c pdp11", "or install node, 16")
+            self.assertRefuses(f"this system is {system.lower()}-{machine}", *words)
+
+    def test_an_older_release_file_that_is_asked_for(self) -> None:
+        self.make_release()
+        self.change_a_byte("crates/low/src/lib.rt")
+        refusal = f"pdp11: {RELEASE} was made of other sources than these, so it isn't used; "
+        self.assertRefuses(f"{refusal}PDP11_RELEASE=1 in the environment has it run\n")
+        told = f"{RELEASE} run, which was made of other sources than these\n"
+        with mock.patch.dict(os.environ, {"PDP11_RELEASE": "1"}):
+            self.assertRuns()
+            self.assertEqual(self.said, f"a program: a b\npdp11: PDP11_RELEASE has {told}")
+            ended = self.run_in("tools/program", "--quiet", "pdp11")
+            self.assertEqual((ended.stdout, ended.stderr), (f"{self.tree}/{RELEASE}\n", ""))
+            self.change_a_byte(RELEASE)
+            self.assertRefuses("isn't the file that was made")
+            self.change_a_byte(RELEASE)
+            self.change_a_byte("crates/low/src/lib.rt")
+            self.assertRuns()
+            self.assertEqual(self.said, "a program: a b\n")
+
+    def test_a_release_file_in_place_of_what_was_built(self) -> None:
+        self.make_release()
+        self.change_a_byte("crates/low/src/lib.rt")
+        built = PROGRAM.replace("a program", "built")
+        self.assertEqual(self.run_in("./pdp11", kit=True, program=built).stdout, "built:\n")
+        with mock.patch.dict(os.environ, {"PDP11_RELEASE": "1"}):
+            self.assertRuns()
 
     def test_from_source(self) -> None:
         self.make_release()
@@ -173,7 +203,7 @@ class ByNode(Tree):
     def test_it_is_told_once_at_a_terminal(self) -> None:
         path = os.pathsep.join(map(str, [self.folder / "bin", *self.path]))
         environment = {**os.environ, "PATH": path}
-        command = ["sh", "-c", "tools/program search; tools/program disassemble; echo end"]
+        command = ["sh", "-c", "tools/program search; tools/program --quiet disassemble; echo end"]
         self.write("crates.txt", f"{CRATES}search: low\n")
         self.write("../bin/uname", OTHER_SYSTEM, 0o755)
         for name in "search", "disassemble":
@@ -182,6 +212,16 @@ class ByNode(Tree):
             terminal.wait_for(b"search: release/search-linux-x86_64 can't run here, so node runs")
             terminal.wait_for(b"tools/by-node/search\r\n/")
             terminal.wait_for(b"tools/by-node/disassemble\r\nend\r\n")
+
+    def test_an_older_module_that_is_asked_for(self) -> None:
+        self.write("../bin/uname", OTHER_SYSTEM, 0o755)
+        self.change_a_byte("crates/low/src/lib.rt")
+        self.assertRefuses("release/pdp11.wasm was made of other sources", "PDP11_RELEASE=1 in")
+        with mock.patch.dict(os.environ, {"PDP11_RELEASE": "1"}):
+            ended = self.run_in("./pdp11", "a")
+        self.assertRegex(ended.stdout, "^by node: .* a\n$")
+        said = "^pdp11: PDP11_RELEASE has release/pdp11.wasm run, [^\n]*\n$"
+        self.assertRegex(ended.stderr, said)
 
 
 @unittest.skipUnless(shutil.which("node"), "node isn't installed")

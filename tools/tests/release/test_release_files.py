@@ -144,12 +144,55 @@ class Checked(Tree):
     @BY_GIT
     def test_an_archive_has_what_is_committed_and_released(self) -> None:
         self.commit()
-        self.write("crates/low/src/more.rt", "")
+        self.write("README.md", f"Made with `{KIT}`, and changed.\n")
         self.assertIsNone(self.archive("first"))
-        self.assertIn("committed", self.said)
+        self.assertIn("git status shows what isn't", self.said)
         self.commit()
-        self.assertIsNone(self.archive("second"))
+        self.assertIsNotNone(self.archive("second"))
+        self.write("crates/low/src/more.rt", "")
+        self.assertIsNone(self.archive("third"))
         self.assertIn("release --make", self.said)
+
+    @BY_GIT
+    def test_files_that_git_does_not_track(self) -> None:
+        """As README's examples make them, or an archive before."""
+        self.commit()
+        first = self.archive("first")
+        assert first is not None, self.said
+        for name in "my.session", "my.disk", "out.txt":
+            self.write(name, "mine")
+        for _ in range(2):
+            ended = self.run_in("tools/release", "--archive")
+            self.assertEqual(ended.returncode, 0, self.said)
+            made = self.tree / ended.stdout.strip()
+            self.assertEqual(made.read_bytes(), first.read_bytes())
+
+    @BY_GIT
+    def test_a_clone_of_another_owner(self) -> None:
+        self.commit()
+        with mock.patch.dict(os.environ, {"GIT_TEST_ASSUME_DIFFERENT_OWNER": "1"}):
+            self.assertNotEqual(self.run_in("git", "status").returncode, 0)
+            self.assertIsNotNone(self.archive("first"), self.said)
+            (self.tree / ".git/HEAD").write_text("nothing")
+            self.assertIsNone(self.archive("second"))
+        self.assertRegex(self.said, "^release: git can't read this clone: [^\n]*\n$")
+
+    def test_a_folder_that_is_missing_or_cannot_be_made(self) -> None:
+        folder = self.folder / "some" / "more"
+        ended = self.run_in("tools/release", "--archive", str(folder))
+        self.assertEqual(ended.returncode, 0, self.said)
+        self.assertTrue(Path(ended.stdout.strip()).is_file())
+        self.run_in("sh", "-c", "cd .. && tree/tools/release --archive here")
+        self.assertEqual(len(list((self.folder / "here").iterdir())), 1)
+        ended = self.run_in("tools/release", "--archive", "/proc/nothing")
+        self.assertEqual((ended.returncode, ended.stdout), (1, ""))
+        self.assertTrue(self.said.endswith("release: no archive is made in /proc/nothing\n"))
+
+    def test_an_archive_has_no_archive(self) -> None:
+        """In a tree without git, where it was made before."""
+        made = [self.run_in("tools/release", "--archive", it).stdout for it in (".", ".", "more")]
+        held = [(self.tree / it.strip()).read_bytes() for it in made]
+        self.assertEqual(held, [held[0]] * 3)
 
     @BY_GIT
     def test_an_archive_without_git_is_the_same(self) -> None:
@@ -160,14 +203,14 @@ class Checked(Tree):
         self.assertEqual(by_git.name, f"nezdrab-{version}.tar.gz")
         self.path = path_without(self.folder, "rt", "git")
         self.assertIsNone(self.archive("second"))
-        said = "release: an archive of a clone is made by git, which isn't on PATH\n"
+        said = "release: what is committed in a clone is told by git, which isn't on PATH\n"
         self.assertEqual(self.said, said)
         self.tree = self.unpacked(by_git)
         self.write("tools/__pycache__/python_needed.pyc", "")
         self.write("crates/pdp11/out/pdp11", "")
         without = self.archive("third")
         assert without is not None, self.said
-        self.assertIn("this is no clone, so the archive has all files that are here", self.said)
+        self.assertIn("this is no clone, so all files that are here are taken", self.said)
         self.assertEqual((without.name, without.read_bytes()), (by_git.name, by_git.read_bytes()))
 
     def test_a_version_that_is_not_the_newest_release(self) -> None:

@@ -1,8 +1,17 @@
-"""explore --version."""
+"""The option --version of what has one."""
 from .tree import Tree
 
 
 class Version(Tree):
+    def test_each_program_but_pdp11(self) -> None:
+        self.make_release()
+        self.write("VERSION", "2031-02-03\n")
+        for command in "./search", "./disassemble", "./explore", "./explore dap":
+            ended = self.run_in(*command.split(), "--version")
+            wanted = f"{command[2:]} of Nezdrab, release 2031-02-03 or later\n"
+            self.assertEqual((self.said, ended.returncode), (wanted, 0))
+        self.assertEqual(self.run_in("./pdp11", "--version").stdout, "a program: --version\n")
+
     def test_the_release_of_the_file_version(self) -> None:
         self.write("VERSION", "2031-02-03\n")
         ended = self.run_in("./explore", "--version")

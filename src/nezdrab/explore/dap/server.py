@@ -7,7 +7,7 @@ import sys
 
 from ..errors import ExploreError
 from ..interrupts import INTERRUPTS
-from ..options import Parser
+from ..options import Parser, ShowVersion
 from ..output import complain, put
 from ..programs import by_another_python
 from .adapter import Adapter
@@ -22,17 +22,23 @@ Adapter Protocol on standard input and output, or with --port on that port of th
 to each editor by a process of its own. docs/EDITORS.md has what `launch` takes."""
 
 
-def arguments(words: list[str]) -> argparse.Namespace:
+def new_parser() -> Parser:
+    """What reads the arguments of the adapter."""
     parser = Parser(
         prog="explore dap",
         description=DESCRIPTION,
         allow_abbrev=False,
         formatter_class=argparse.RawDescriptionHelpFormatter,
     )
+    parser.add_argument("--version", action=ShowVersion, help="shows the newest release, and ends")
     parser.add_argument("--port", metavar="N", help="waits there for editors; 0 is any free port")
     parser.add_argument("--program", metavar="FILE", default="", help="a built search")
     parser.add_argument("--disassembler", metavar="FILE", default="", help="a built disassemble")
-    return parser.parse_args(words)
+    return parser
+
+
+def arguments(words: list[str]) -> argparse.Namespace:
+    return new_parser().parse_args(words)
 
 
 def private_streams() -> Wire:

@@ -1,0 +1,5 @@
+#compdef nezdrab-disassemble
+# Made by tools/make-manual: completes the options and files of nezdrab-disassemble.
+_arguments \
+  '(-h --help)'{-h,--help}'[Print help]' \
+  '--version[Print the newest release]'
