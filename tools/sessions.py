@@ -12,12 +12,13 @@ import os
 import re
 import subprocess
 from dataclasses import dataclass
-from typing import Any, Iterable, NamedTuple, Union
+from typing import Any, Iterable, NamedTuple, Optional, Union
 
 from nezdrab.sessions import *  # noqa: F403, what the checks know as sessions.NAME
 from nezdrab.sessions import EDITS, SEARCHES, first_word, further_lines, has_reply, is_reply
 from nezdrab.sessions import lines_of, pattern_of, without_end
 
+ROOT = os.path.dirname(os.path.dirname(os.path.abspath(__file__)))
 SECONDS = 300
 
 
@@ -60,32 +61,45 @@ def existing_program(path: str) -> str:
 
 @dataclass(frozen=True)
 class Asked:
-    """What a tool's arguments say: the program, the folders, the strides to run their sessions
-    with, which of its own flags are there, and each of its own numbers."""
+    """What a tool's arguments say: the folders, the strides to run their sessions with, which of
+    its own flags are there, and what each of its own words is."""
 
-    program: str
     folders: list[str]
     strides: list[str]
     flags: frozenset[str]
-    numbers: dict[str, int]
+    words: dict[str, Any]
 
 
-def asked(description: str, *flags: str, numbers: Iterable[str] = ()) -> Asked:
-    """Reads a tool's arguments. A flag and a number are given as they are typed, as `--search`."""
+def parser_of(description: Optional[str]) -> argparse.ArgumentParser:
     as_it_is = argparse.RawDescriptionHelpFormatter
-    parser = argparse.ArgumentParser(description=description, formatter_class=as_it_is)
+    return argparse.ArgumentParser(description=description, formatter_class=as_it_is)
+
+
+def asked(parser: argparse.ArgumentParser, *flags: str) -> Asked:
+    """Reads a tool's arguments. A flag is given as it is typed, as `--search`."""
     parser.add_argument("--stride", metavar="LIST", default="", help="such as 1,4,10000")
     for flag in flags:
         parser.add_argument(flag, dest=flag, action="store_true")
-    for number in numbers:
-        parser.add_argument(number, dest=number, metavar="N", type=int, default=0)
-    parser.add_argument("program", metavar="PROGRAM", type=existing_program)
-    parser.add_argument("folders", metavar="FOLDER", nargs="+")
+    parser.add_argument("folders", metavar="FOLDER", nargs="*")
     words = vars(parser.parse_args())
     strides = [stride for stride in words["stride"].split(",") if stride]
     there = frozenset(flag for flag in flags if words[flag])
-    given = {number: words[number] for number in numbers}
-    return Asked(words["program"], words["folders"], strides, there, given)
+    return Asked(words["folders"], strides, there, words)
+
+
+def asked_folders(parser: argparse.ArgumentParser) -> argparse.Namespace:
+    """Reads a tool's arguments, whose last ones are folders that must be there."""
+    parser.add_argument("folders", metavar="FOLDER", nargs="*")
+    found = parser.parse_args()
+    for it in found.folders:
+        if not os.path.isdir(it):
+            parser.error(f"{it}: no such folder")
+    return found
+
+
+def folders_of(given: list[str], *usual: str) -> list[str]:
+    """The folders that are given, otherwise the usual ones of this repository."""
+    return given or [os.path.relpath(os.path.join(ROOT, it)) for it in usual]
 
 
 def stored(path: str, default: bytes = b"") -> bytes:

@@ -1,24 +1,19 @@
 #!/usr/bin/env python3
-"""test_package.py PROGRAM: tests the package nezdrab with a built search, by the tests in
-tools/tests/package. One makes a wheel and tries it outside the clone; without setuptools, wheel or
-venv it is skipped, and named. The last line is 'N passed, M failed'."""
-import argparse
+"""test_package.py [--quick]: tests the package nezdrab by the tests in tools/tests/package, with
+the search of tests/under_test.py. One makes a wheel and tries it outside the clone; without
+setuptools, wheel or venv it is skipped, and named. The last line is 'N passed, M failed'."""
 import sys
 
 sys.dont_write_bytecode = True
 import python_needed
 
 python_needed.check()
-import sessions
-from tests import counted, under_test
+from tests import counted
 
 
 def main() -> int:
-    as_it_is = argparse.RawDescriptionHelpFormatter
-    parser = argparse.ArgumentParser(description=__doc__, formatter_class=as_it_is)
-    parser.add_argument("search", metavar="PROGRAM", type=sessions.existing_program)
-    under_test.name_it("search", parser.parse_args().search)
-    return counted.run("package")
+    words = counted.parser_of(__doc__).parse_args()
+    return counted.run_quick("package") if words.quick else counted.run("package")
 
 
 if __name__ == "__main__":

@@ -4,6 +4,7 @@ _nezdrab_dap() {
 --help
 --version
 --port
+--socket
 --program
 --disassembler'
     local word=${COMP_WORDS[COMP_CWORD]} before=${COMP_WORDS[COMP_CWORD - 1]} IFS=$'\n'
@@ -16,7 +17,7 @@ _nezdrab_dap() {
     --program | --disassembler)
         COMPREPLY=($(compgen -f -- "$word"))
         ;;
-    --port)
+    --port | --socket)
         COMPREPLY=()
         ;;
     *)

@@ -21,6 +21,7 @@ Answer = TypeVar("Answer")
 StrPath = Union[str, "os.PathLike[str]"]
 Option = Union[StrPath, SupportsIndex]
 Key = Union[SupportsIndex, str, bytes]
+LARGEST_KEY = 0o377
 
 
 def asks(
@@ -43,13 +44,21 @@ def asks(
     return ask
 
 
+def path_of(name: str, value: Any) -> str:
+    """The path that an option is. A TypeError if it is bytes, such as those of the file."""
+    path = os.fspath(value)
+    if not isinstance(path, str):
+        raise TypeError(f"{name} is the path of a file, a str, and not {len(path)} bytes")
+    return path
+
+
 def options_in_words(given: dict[str, Option]) -> Options:
     """The options of the program, as texts. Paths become absolute. A name that is none is a
     TypeError."""
     found: Options = {}
     for name, value in given.items():
         if name in FILES:
-            found[name] = os.fspath(value)  # type: ignore[arg-type]
+            found[name] = path_of(name, value)
         elif name in NUMBERS:
             number: Any = value
             found[name] = octal(number) if name == "start" else decimal(number)
@@ -60,12 +69,12 @@ def options_in_words(given: dict[str, Option]) -> Options:
 
 def key_in_octal(key: Key) -> str:
     """The byte of a key, which is a number, or one character of Latin-1."""
-    if isinstance(key, str):
-        key = key.encode("latin-1", "replace")
-    if isinstance(key, bytes):
+    if isinstance(key, (str, bytes)):
         if len(key) != 1:
             raise ValueError(f"a key is one character, and {key!r} has {len(key)}")
-        key = key[0]
+        key = ord(key)
+        if key > LARGEST_KEY:
+            raise ValueError(f"a key is a byte, and no byte of Latin-1 is {chr(key)!r}")
     return octal(key)
 
 

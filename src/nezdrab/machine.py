@@ -5,31 +5,32 @@ import copy
 import operator
 import os
 import re
+import weakref
 from contextlib import contextmanager
 from pathlib import Path
-from typing import Any, Callable, Iterable, Iterator, Optional, Sequence, SupportsIndex, TypeVar
-from typing import Union, overload
+from typing import Any, Iterable, Iterator, NoReturn, Optional, Sequence, SupportsIndex
+from typing import TypeVar, Union, overload
 
 from . import questions
 from .arguments import Key, Option, StrPath, asks, event_text, options_in_words
 from .explore.errors import ExploreError
+from .explore.files import Output
 from .explore.in_words import counted
 from .explore.language import explanation, is_edit
 from .explore.machine import MOST_TURNS_OF_A_TRAIL, SHORT_SENT_AHEAD, Machine as Engine
 from .explore.machine import Refused, Start, is_refused
-from .explore.options import Options, check_session, faults_of, options_of_session
-from .explore.options import words_of_options
+from .explore.options import Options, check_session, faults_of, option_lines, options_of_session
+from .explore.options import options_of_words, words_of_options
 from .explore.past import Event
 from .explore.programs import found_program
 from .explore.replies import LastWrite, Mode, TurnAccesses, WordRead
 from .explore.session_file import made_edits
 from .explore.symbols import ADDRESS, OCTAL, Symbols
 from .questions import Address, ModeName, Question, decimal, octal
-from .replies import Found, Transfer
+from .replies import Found, Transfer, going_on
 from .words import Core, Drive
 
 Answer = TypeVar("Answer")
-Item = TypeVar("Item")
 
 
 class Machine:
@@ -47,11 +48,10 @@ class Machine:
     (None: as long as it takes), TimedOut. Ctrl-C stops a question too. After each of these the
     machine goes on with all its edits: the next question runs its turns again.
 
-    A machine is for one thread. `close`, or the end of a `with`, ends its program."""
+    A machine is for one thread. `close`, the end of a `with`, or that nobody has the machine any
+    more ends its program."""
 
     symbols: Symbols
-    core: Core
-    disk: Drive
 
     def __init__(
         self,
@@ -74,8 +74,7 @@ class Machine:
 
     def _take(self, engine: Engine, symbols: Symbols) -> None:
         self._engine, self.symbols = engine, symbols
-        self.core = Core(self._edit, self._number, lambda it: self.mem(0, it)[0])
-        self.disk = self.drive(None)
+        weakref.finalize(self, end_of_its_process, engine, os.getpid())
 
     @classmethod
     def of_session(
@@ -117,9 +116,31 @@ class Machine:
     def __exit__(self, *what: object) -> None:
         self.close()
 
+    def __copy__(self, memo: object = None) -> Machine:
+        return self.fork()
+
+    __deepcopy__ = __copy__
+
+    def __reduce__(self) -> NoReturn:
+        raise TypeError(
+            "a machine can't be pickled, since its program runs: fork() gives another one, and "
+            "save() writes a session"
+        )
+
     def close(self) -> None:
-        """Ends the program. A question after that raises ProgramEnded."""
+        """Ends the program, as the end of the machine does. A question or an edit after that raises
+        ProgramEnded."""
         self._engine.close()
+
+    def save(self, path: StrPath, *, overwrite: bool = False) -> None:
+        """Writes options and edits as a session: `of_session` gives the same machine of it, with
+        the same numbers of events, and the programs run it, with these options. A NezdrabError if
+        the file is there already, unless `overwrite`, or if it can't be written."""
+        start = self._engine.start
+        options = options_of_words(start.options, "Machine", start.folder)
+        lines = [*option_lines(options), *self._engine.journal]
+        text = "".join(f"{it}\n" for it in lines)
+        Output("overwrite=True", overwrite).write(Path(path), text.encode(errors="surrogateescape"))
 
     @property
     def seconds(self) -> Optional[float]:
@@ -178,8 +199,18 @@ class Machine:
                 raise self._refusal(line, reply)
         return replies
 
+    @property
+    def core(self) -> Core:
+        """The words of core at power-up."""
+        return Core(self._edit, self._number, lambda it: self.mem(0, it)[0])
+
+    @property
+    def disk(self) -> Drive:
+        """The words of the one drive of version 1 at power-up."""
+        return self.drive(None)
+
     def drive(self, drive: Optional[SupportsIndex]) -> Drive:
-        """The words of a drive, 0 to 7, at power-up. Version 1 has one drive, `disk`."""
+        """The words of a drive, 0 to 7, at power-up, from version 2 on."""
         return Drive(self._edit, lambda it: self.dsk(0, it, drive=drive)[0], drive)
 
     def put_tape(self, tape: bytes) -> None:
@@ -228,7 +259,7 @@ class Machine:
         self._edit([f"drop {decimal(number)}"])
 
     def fork(self) -> Machine:
-        """Another machine with the same past and names, in a program of its own."""
+        """Another machine with the same past and names, in a program of its own; a copy is one."""
         other = type(self).__new__(type(self))
         engine = self._engine.twin()
         engine.seconds = self.seconds
@@ -289,7 +320,8 @@ class Machine:
             yield reply
 
     def _refusal(self, line: str, reply: str) -> Refused:
-        return Refused(line, reply, explanation(line, reply, self._engine.setup.version))
+        why = questions.count_fault(line, reply)
+        return Refused(line, reply, why or explanation(line, reply, self._engine.setup.version))
 
     regs = asks(questions.regs)
     mem = asks(questions.mem)
@@ -443,22 +475,16 @@ class Machine:
         processes: int = 1,
     ) -> Iterator[tuple[int, Any]]:
         """Each of the turns with the answer to the question if the event were there: a new event,
-        such as "tick", or the one with this number, moved. The past stays as it is."""
+        such as "tick", or the one with this number, moved. The past stays as it is. Turns are taken
+        as answers are: both may go on for ever."""
         from .sweeping import Sweep  # which few need
 
         asked = questions.question_of(question)
-        yield from Sweep.of(self._engine, event, asked.lines(self._number)).answers(
-            [operator.index(it) for it in turns], asked.read, processes
-        )
+        swept = Sweep.of(self._engine, event, asked.lines(self._number))
+        yield from swept.answers(turns, asked.read, processes)
 
 
-def going_on(
-    search: Callable[[int], Found[Item]], begin: int, after: Callable[[Item], int]
-) -> Iterator[Item]:
-    """All that a search finds, which after its most goes on behind the last item."""
-    is_all = False
-    while not is_all:
-        found = search(begin)
-        yield from found.items
-        is_all = found.is_all
-        begin = begin if is_all else after(found.items[-1])
+def end_of_its_process(engine: Engine, process: int) -> None:
+    """Closes a machine that nobody has any more; not in a process that os.fork has made since."""
+    if os.getpid() == process:
+        engine.close()

@@ -74,6 +74,19 @@ def parts_of(count: SupportsIndex) -> list[tuple[int, int]]:
     return parts or [(0, words)]
 
 
+def count_fault(line: str, reply: str) -> str:
+    """Why a count was refused, if the question is one that is asked in parts: its count may be more
+    than that of a line."""
+    if not reply.startswith("refused 8 "):
+        return ""
+    word, turn, *_, count = line.split()
+    if word in ("mem", "dsk") and int(count) == 0:
+        return "the count is 1 or more"
+    if word in ("trail", "accesses") and not 0 < int(count) <= int(turn):
+        return "the count is 1 or more, and no more than the turn"
+    return ""
+
+
 def of_drive(drive: Optional[SupportsIndex]) -> str:
     return "" if drive is None else f"{octal(drive)} "
 

@@ -2,9 +2,10 @@
 from __future__ import annotations
 
 from dataclasses import dataclass
-from typing import Generic, Optional, TypeVar
+from typing import Callable, Generic, Iterator, Optional, TypeVar
 
 from .explore.errors import ExploreError
+from .explore.replies import hash_of
 
 Item = TypeVar("Item")
 
@@ -36,6 +37,20 @@ class Found(Generic[Item]):
 
     items: list[Item]
     is_all: bool
+
+    __hash__ = hash_of
+
+
+def going_on(
+    search: Callable[[int], Found[Item]], begin: int, after: Callable[[Item], int]
+) -> Iterator[Item]:
+    """All that a search finds, which after its most goes on behind the last item."""
+    is_all = False
+    while not is_all:
+        found = search(begin)
+        yield from found.items
+        is_all = found.is_all
+        begin = begin if is_all else after(found.items[-1])
 
 
 @dataclass(frozen=True)

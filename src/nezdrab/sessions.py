@@ -1,5 +1,5 @@
 """The lines of the session language: their forms, what they are, and how a text of lines and
-replies falls into them. tools/check-help compares the table with --help."""
+replies falls into them. tools/check help compares the table with --help."""
 import re
 from typing import AnyStr, NamedTuple
 

@@ -2,11 +2,15 @@
 from __future__ import annotations
 
 import operator
+import queue
+from collections import deque
+from concurrent.futures import Future, ThreadPoolExecutor
+from contextlib import contextmanager
 from dataclasses import dataclass, field
-from typing import Callable, Iterator, Optional, Sequence, SupportsIndex, TypeVar, Union
+from itertools import chain, islice
+from typing import Callable, Iterable, Iterator, Optional, Sequence, SupportsIndex, TypeVar, Union
 
 from .explore import sweep
-from .explore.crew import each_of
 from .explore.errors import ExploreError
 from .explore.language import explanation
 from .explore.machine import SHORT_SENT_AHEAD, Machine as Engine, Refused, is_refused
@@ -25,6 +29,7 @@ class Sweep:
     moved: Optional[Event]
     lines: Sequence[str]
     numbers: dict[int, str] = field(default_factory=dict)  # of the new event, by its twin
+    twins: dict[int, Engine] = field(default_factory=dict)  # those that aren't closed, by id
 
     @classmethod
     def of(cls, engine: Engine, event: Union[SupportsIndex, str], lines: Sequence[str]) -> Sweep:
@@ -37,23 +42,56 @@ class Sweep:
         return cls(engine, moved.text, moved, lines)
 
     def answers(
-        self, turns: Sequence[int], read: Callable[[Sequence[str]], Answer], processes: int
+        self,
+        turns: Iterable[SupportsIndex],
+        read: Callable[[Sequence[str]], Answer],
+        processes: int,
     ) -> Iterator[tuple[int, Answer]]:
-        """The turns with their answers, in the order of the turns."""
-        if not turns:
-            return
-        parts = [turns[at : at + TURNS_OF_A_PART] for at in range(0, len(turns), TURNS_OF_A_PART)]
-        first = range(turns[0], turns[0] + 1)
-        stride = sweep.Sweep(self.event, self.moved, first, self.lines[0]).stride()
-        come: dict[int, list[list[str]]] = {}
-        tasks, hands = list(enumerate(parts)), max(1, min(processes, len(parts)))
-        done = each_of(self.engine, tasks, lambda twin, it: self.part(twin, it[1]), hands, stride)
-        wanted = 0
-        for (number, _), replies in done:
-            come[number] = replies
-            while wanted in come:
-                yield from zip(parts[wanted], map(read, come.pop(wanted)))
-                wanted += 1
+        """The turns with their answers, in the order of the turns, each of which is taken a few
+        parts before its answer is wanted."""
+        left = map(operator.index, turns)
+        parts = iter(lambda: list(islice(left, TURNS_OF_A_PART)), [])
+        hands = max(1, processes)
+        first: list[int] = next(parts, [])
+        free: "queue.SimpleQueue[Engine]" = queue.SimpleQueue()
+        asked: "deque[tuple[list[int], Future[list[list[str]]]]]" = deque()
+
+        def replies(part: list[int]) -> list[list[str]]:
+            twin = free.get()
+            try:
+                return self.part(twin, part)
+            finally:
+                free.put(twin)
+
+        with ThreadPoolExecutor(hands) as pool, self.ended():
+            for number, part in enumerate(chain([first] if first else [], parts)):
+                if number < hands:
+                    free.put(self.twin(self.engine, self.stride(first[0])))
+                asked.append((part, pool.submit(replies, part)))
+                if len(asked) > hands:
+                    part, done = asked.popleft()
+                    yield from zip(part, map(read, done.result()))
+            for part, done in asked:
+                yield from zip(part, map(read, done.result()))
+
+    def stride(self, turn: int) -> Optional[int]:
+        """The stride of twins whose first turn is this one."""
+        first = range(turn, turn + 1)
+        return sweep.Sweep(self.event, self.moved, first, self.lines[0]).stride()
+
+    def twin(self, engine: Engine, stride: Optional[int] = None) -> Engine:
+        twin = engine.twin(stride=stride)
+        self.twins[id(twin)] = twin
+        return twin
+
+    @contextmanager
+    def ended(self) -> Iterator[None]:
+        """A part at whose end all twins end, with what they do."""
+        try:
+            yield
+        finally:
+            for twin in list(self.twins.values()):
+                twin.close()
 
     def part(self, twin: Engine, turns: Sequence[int]) -> list[list[str]]:
         """The replies with the event at each of these turns. Back in its own turn a moved event
@@ -63,11 +101,12 @@ class Sweep:
         moves = [it for it in turns if it != own]
         found = dict(zip(moves, self.asked(twin, moves)))
         if own is not None and own in turns:
-            unmoved = twin.twin()
+            unmoved = self.twin(twin)
             try:
                 found[own] = replies_to(unmoved, self.lines)
             finally:
                 unmoved.close()
+                del self.twins[id(unmoved)]
         return [found[it] for it in turns]
 
     def asked(self, twin: Engine, turns: Sequence[int]) -> list[list[str]]:

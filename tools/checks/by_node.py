@@ -1,13 +1,11 @@
-"""check-node FOLDER..: runs the stored sessions of these folders by node, as ./pdp11 does where the
+"""by-node [FOLDER..]: runs the stored sessions of these folders by node, as ./pdp11 does where the
 native program can't run (tools/by-node): sessions by pdp11, searches by search. It compares
-standard output, exit status and standard error byte for byte. It also runs what check-streams runs,
-but of the outputs that take a part of the replies each twentieth one, and disassemble on the words
-that its crate has.
+standard output, exit status and standard error byte for byte. It also runs what the check streams
+runs, but of the outputs that take a part of the replies each twentieth one, and disassemble on the
+words that its crate has. The folders are rows/program and rows/searches if none is given.
 
 The last line is 'N passed, M failed', and before it stands how many programs were left out: those
 whose module is older than the sources. The status is 77 if nothing was run: without node too."""
-import argparse
-import os
 import shutil
 import subprocess
 import sys
@@ -20,6 +18,7 @@ from webassembly import files
 from . import streams
 
 ROOT = Path(__file__).resolve().parents[2]
+FOLDERS = "rows/program", "rows/searches"
 SKIPPED, STEP_OF_PARTS = 77, 20
 # What is wrong with each run, or None.
 Found = Iterator[Optional[str]]
@@ -78,23 +77,11 @@ def check_programs(folders: list[str]) -> int:
 
 
 def main() -> int:
-    as_it_is = argparse.RawDescriptionHelpFormatter
-    parser = argparse.ArgumentParser(description=__doc__, formatter_class=as_it_is)
-    parser.add_argument("folders", metavar="FOLDER", nargs="+")
-    folders = parser.parse_args().folders
-    for it in folders:
-        if not Path(it).is_dir():
-            parser.error(f"{it}: no such folder")
-    try:
-        if shutil.which("node") is None:
-            print("node isn't installed")
-            return SKIPPED
-        return check_programs(folders)
-    except BrokenPipeError:
-        sys.stdout = open(os.devnull, "w")
-        return 1
-    except KeyboardInterrupt:
-        return 130
+    given = sessions.asked_folders(sessions.parser_of(__doc__)).folders
+    if shutil.which("node") is None:
+        print("node isn't installed")
+        return SKIPPED
+    return check_programs(sessions.folders_of(given, *FOLDERS))
 
 
 if __name__ == "__main__":

@@ -1,4 +1,4 @@
-"""What the program search must reply to a line, computed for check-lines from what is known of each
+"""What the program search must reply to a line, computed for lines.py from what is known of each
 turn of a stored system."""
 from typing import Callable
 

@@ -1,5 +1,5 @@
-"""check-docs PDP11 SEARCH DISASSEMBLER: replays the sessions that README.md and docs/ show on these
-built programs, and compares. It also checks the links and widths of these documents and of
+"""documents: replays the sessions that README.md and docs/ show on pdp11, search and explore, and
+compares. It also checks the links and widths of these documents and of
 crates/DEFINITIONS.md, how many lines docs/ has, that README.md names the kit of release/KIT, and
 that the checklists of docs/CHANGING.md name each file that their examples are in
 (checks/checklists.py). It prints what is wrong. The last line is 'N passed, M failed'.
@@ -30,7 +30,6 @@ Each block of a document is fenced, and its info string says what it is:
 `session after PATH` and `session beside after PATH` begin with a stored session, as far as it goes
 before the first line of the block; it has its arguments and its folder. In a reply or an output
 `..` stands for anything, at a terminal for anything in a line."""
-import argparse
 import contextlib
 import itertools
 import os
@@ -46,6 +45,7 @@ import sessions
 from checks.checklists import CHANGING, failures_of_checklists
 from nezdrab.explore.script import typed_bytes
 from pseudo_terminal import NotShown, PseudoTerminal
+from tests import under_test
 
 ROOT = os.path.normpath(os.path.join(os.path.dirname(os.path.abspath(__file__)), "..", ".."))
 README, DOCS, DEFINITIONS = "README.md", "docs", "crates/DEFINITIONS.md"
@@ -78,11 +78,11 @@ class Document(NamedTuple):
 
 
 class Programs(NamedTuple):
-    """The paths of the built programs."""
+    """The paths of the programs."""
 
     pdp11: str
     search: str
-    disassembler: str
+    disassemble: str
 
 
 def read_document(name: str) -> Document:
@@ -250,7 +250,7 @@ def failure_of_output(lines: list[str], got: bytes) -> Optional[str]:
 @contextlib.contextmanager
 def folder_of(programs: Programs) -> Iterator[str]:
     """A folder that has the programs and the examples."""
-    built = ["--program", programs.search, "--disassembler", programs.disassembler]
+    built = ["--program", programs.search, "--disassembler", programs.disassemble]
     explore = shlex.join([os.path.join(ROOT, "explore"), *built])
     with tempfile.TemporaryDirectory() as folder:
         os.symlink(programs.pdp11, os.path.join(folder, "pdp11"))
@@ -394,11 +394,8 @@ def at_least_one(failures: Iterable[str]) -> list[Optional[str]]:
 
 
 def main() -> int:
-    as_it_is = argparse.RawDescriptionHelpFormatter
-    parser = argparse.ArgumentParser(description=__doc__, formatter_class=as_it_is)
-    for name in Programs._fields:
-        parser.add_argument(name, metavar=name.upper(), type=sessions.existing_program)
-    programs = Programs(**vars(parser.parse_args()))
+    sessions.parser_of(__doc__).parse_args()
+    programs = Programs(*map(under_test.by_its_name, Programs._fields))
     results = list(all_failures(programs, documents()))
     wrong = [it for it in results if it is not None]
     print("".join(f"{it}\n" for it in wrong), end="")

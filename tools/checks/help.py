@@ -1,9 +1,8 @@
-"""check-help PDP11 SEARCH: compares the tables of the languages in src/nezdrab/sessions.py with the
-lines that the --help of pdp11 and of search show: the same forms in the same order with the same
+"""help: compares the tables of the languages in src/nezdrab/sessions.py with the lines that the
+--help of pdp11 and of search show: the same forms in the same order with the same
 texts, and of a session's lines a question exactly if its text says 'before turn N'. It also
 compares what ./pdp11 --help and ./search --help show while there is no program. The last line is 'N
 passed, M failed'."""
-import argparse
 import itertools
 import os
 import re
@@ -14,6 +13,7 @@ import tempfile
 from typing import Iterator, Optional
 
 import sessions
+from tests import under_test
 
 
 ROOT = os.path.join(os.path.dirname(os.path.abspath(__file__)), "..", "..")
@@ -34,7 +34,7 @@ ROW = re.compile(r"  (\S.*?)  +(\S.*)")
 
 def lines_shown(text: str, head: str) -> list[tuple[str, str]]:
     """The forms that a help shows below this head for lines, each with its text."""
-    rows = text.split(f"\n{head}", 1)[1].split("\n\n", 1)[0].splitlines()[1:]
+    rows = text.partition(f"\n{head}")[2].partition("\n\n")[0].splitlines()[1:]
     shown: list[tuple[str, str]] = []
     for row in rows:
         begun = ROW.fullmatch(row)
@@ -83,7 +83,7 @@ def unbuilt_help(name: str, stored: str) -> bytes:
 def failures(name: str, program: str) -> Iterator[Optional[str]]:
     """What is wrong with the help of a program, for each line of its language, or None."""
     stored, heads = PROGRAMS[name]
-    text = subprocess.run([program, "--help"], stdout=subprocess.PIPE, check=True).stdout
+    text = subprocess.run([program, "--help"], stdout=subprocess.PIPE).stdout
     for head, table in heads:
         for wrong in differences(lines_shown(text.decode(), head), table):
             yield wrong and f"{name}: {wrong}"
@@ -94,11 +94,8 @@ def failures(name: str, program: str) -> Iterator[Optional[str]]:
 
 
 def main() -> int:
-    parser = argparse.ArgumentParser(description=__doc__)
-    for name in PROGRAMS:
-        parser.add_argument(name, metavar=name.upper(), type=sessions.existing_program)
-    programs = vars(parser.parse_args())
-    found = [it for name in PROGRAMS for it in failures(name, programs[name])]
+    sessions.parser_of(__doc__).parse_args()
+    found = [it for name in PROGRAMS for it in failures(name, under_test.by_its_name(name))]
     wrong = [it for it in found if it is not None]
     print("".join(f"{it}\n" for it in wrong), end="")
     print(f"{len(found) - len(wrong)} passed, {len(wrong)} failed")

@@ -1,23 +1,24 @@
-"""check-jumps [--stride LIST] [--each-turn] [--skipped N] PROGRAM FOLDER..: runs each stored
-session of these folders with all its questions asked again before the next edit, and at the end: a
-hundred times in reverse order, and as often in their order. Each question must have the same reply
-each time.
+"""jumps [--stride LIST] [--skipped N] [FOLDER..]: runs each stored session of these folders on
+pdp11 with all its questions asked again before the next edit, and at the end: a hundred times in
+reverse order, and as often in their order. Each question must have the same reply each time.
 
-With --each-turn questions are asked before the first question after an edit instead: about turn 1,
-turn 0, turn 2, turn 0 and so on, up to the turn of the question, at most 250. With stride 1 each of
-these turns so begins from a loaded state, in which no line is decoded and no translation kept. The
-session must have the same replies.
+each-turn (--each-turn) asks questions before the first question after an edit instead: about turn
+1, turn 0, turn 2, turn 0 and so on, up to the turn of the question, at most 250. With stride 1 each
+of these turns so begins from a loaded state, in which no line is decoded and no translation kept.
+The session must have the same replies.
 
-With a list of strides each session that has no stride of its own is run with each of them. A
-session is skipped if its output isn't one reply for each of its lines: if the program shows its
-help, or doesn't start, or the last line doesn't end. Exactly N sessions must be skipped (0 if it
-isn't given). The last line is 'N passed, M failed'."""
+With a list of strides each session that has no stride of its own is run with each of them; the list
+is 1 if it isn't given. A session is skipped if its output isn't one reply for each of its lines: if
+the program shows its help, or doesn't start, or the last line doesn't end. With --skipped exactly N
+sessions must be skipped. The last line is 'N passed, M failed'."""
 import sys
 from typing import Optional
 
 import sessions
+from tests import under_test
 
 TIMES = 100
+STRIDES = ["1"]
 MOST_TURNS = 250
 
 Answered = list[tuple[bytes, bytes]]
@@ -101,26 +102,30 @@ def failure_of_turns(
 
 
 def main() -> int:
-    asked = sessions.asked(__doc__ or "", "--each-turn", numbers=["--skipped"])
-    to_skip = asked.numbers["--skipped"]
-    failure_in = failure_of_turns if "--each-turn" in asked.flags else failure
+    parser = sessions.parser_of(__doc__)
+    parser.add_argument("--skipped", metavar="N", type=int)
+    asked = sessions.asked(parser, "--each-turn")
+    usual = ["rows", "tables", "examples"] if asked.flags else ["rows", "tables/kept-states"]
+    folders = sessions.folders_of(asked.folders, *usual)
+    failure_in = failure_of_turns if asked.flags else failure
+    program, to_skip = under_test.by_its_name("pdp11"), asked.words["skipped"]
     passed, failed, skipped = 0, 0, []
-    for session in (it for folder in asked.folders for it in sessions.sessions_of(folder)):
+    for session in (it for folder in folders for it in sessions.sessions_of(folder)):
         answered = answered_lines(session)
         if answered is None:
             skipped.append(session.name)
             continue
-        for one in sessions.with_strides(session, asked.strides):
-            wrong = failure_in(asked.program, one, answered)
+        for one in sessions.with_strides(session, asked.strides or STRIDES):
+            wrong = failure_in(program, one, answered)
             if wrong is None:
                 passed += 1
             else:
                 failed += 1
                 print(f"{one.name}: {wrong}")
-    print(f"{len(skipped)} sessions skipped, and {to_skip} are to be")
-    if len(skipped) != to_skip:
+    if to_skip not in (None, len(skipped)):
         failed += 1
-        print("skipped:", *skipped, sep="\n  ")
+        print(f"{to_skip} sessions are to be skipped, and these are:", *skipped, sep="\n  ")
+    print(f"{len(skipped)} skipped")
     print(f"{passed} passed, {failed} failed")
     return int(failed > 0 or passed == 0)
 

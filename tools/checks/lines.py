@@ -1,9 +1,10 @@
-"""check-lines [--stride LIST] PROGRAM FOLDER..: compares replies of the program search with replies
-computed from lines of the session language alone. FOLDER is a folder, or a stored session by its
-name without ending. Of each session and search it takes the edits, asks what its turns are, at most
-600, and asks lines of each search after the session's own lines, with arguments that chance picks
-from a fixed seed. It computes addresses by the rules of memory management, traps by registers and
-the vectors' words, and `fades` by a second run.
+"""lines [--stride LIST] [FOLDER..]: compares replies of the program search with replies computed
+from lines of the session language alone. FOLDER is a folder, or a stored session by its name
+without ending; if none is given, some that have what each device and mapping does. Of each session
+and search it takes the edits, asks what its turns are, at most 600, and asks lines of each search
+after the session's own lines, with arguments that chance picks from a fixed seed. It computes
+addresses by the rules of memory management, traps by registers and the vectors' words, and `fades`
+by a second run.
 
 Core is as small as the patches allow, and the stride is 32 if LIST doesn't say otherwise. Of a
 difference it shows the session, the line, the reply, and the reply that was computed. If it can't
@@ -20,10 +21,24 @@ from checks.computed import computed
 from checks.fading import right_fades
 from checks.picked import Picker
 from checks.systems import NoReplies, System
+from tests import under_test
 
 MOST_TURNS = 600
 FURTHER_TURNS = 8
 STRIDES = ["32"]
+# With mapping, user mode, eight drives, interrupts, traps, the disk, the clock and the tape.
+SYSTEMS = """
+    rows/memory-management rows/hostile
+    tables/memory-management/aborts-of-each-reference tables/interrupts/wait-for-the-clock
+    examples/ledger examples/who-wrote-this-word examples/copy-of-a-pack examples/boot-rk0
+    examples/two-tasks examples/tape-to-console examples/text-from-disk examples/what-was-punched
+    rows/decoded-lines/mapped-code-at-every-turn rows/eight-drives/copy-by-sectors
+    rows/traps/each-cause rows/traps/red-in-a-sequence rows/events-and-patches/order-within-a-turn
+    rows/searches/turns-with-traps rows/searches/latest-turn-at-an-address
+    rows/searches/virtual-addresses rows/searches/change-of-a-disk-word
+    rows/searches/completions-of-the-disk rows/searches/writes-to-a-word
+    tables/kept-states/edits-of-many-devices tables/kept-states/drives-after-edits-that-fade
+""".split()
 WITH_SPAN = (b"first", b"latest", b"counts", b"writes", b"reads", b"transfers", b"change")
 UNITS = 31
 PATCH = re.compile("core +([0-7]{1,10}) ")
@@ -125,16 +140,17 @@ def all_computed(system: System, lines: list[str]) -> dict[str, list[str]]:
 
 
 def main() -> int:
-    asked = sessions.asked(__doc__ or "")
+    asked = sessions.asked(sessions.parser_of(__doc__))
+    program = under_test.by_its_name("search")
     all_of = Compared(asked.strides or STRIDES)
-    for folder in asked.folders:
+    for folder in sessions.folders_of(asked.folders, *SYSTEMS):
         found = sessions_named(folder)
         if not found:
             print(f"{folder}: no session")
             all_of.failed += 1
         for session in found:
             try:
-                all_of.session(asked.program, session)
+                all_of.session(program, session)
             except (NoReplies, LookupError, ValueError) as error:
                 print(f"{session.name}: replies can't be read: {error}")
                 all_of.failed += 1

@@ -1,16 +1,17 @@
-"""check-names: looks at the names of the types in src/ and of the definitions in specs/.
+"""names: looks at the names of the types in src/ and of the definitions in specs/.
 
 It prints each type whose name stands in two crates, each definition whose name stands in two
 modules of specs/, and each definition that is named by a bare participle: a function is named for
 what it gives (`rk_completed`, `signed_value`). Fields of records, clauses, `where` functions and
 modules are not looked at. The last line is 'N passed, M failed', and N and M count names."""
-import argparse
 import glob
 import os
 import re
 import sys
 from collections import defaultdict
 from typing import Iterator
+
+import sessions
 
 ROOT = os.path.join(os.path.dirname(os.path.abspath(__file__)), "..", "..")
 
@@ -77,8 +78,7 @@ def is_participle(name: str) -> bool:
 
 
 def main() -> int:
-    as_it_is = argparse.RawDescriptionHelpFormatter
-    argparse.ArgumentParser(description=__doc__, formatter_class=as_it_is).parse_args()
+    sessions.parser_of(__doc__).parse_args()
     found = 0
     wrong: list[list[str]] = []
     for what, places in (("type", types()), ("definition", definitions())):

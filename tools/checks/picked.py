@@ -1,4 +1,4 @@
-"""Which lines check-lines asks of a stored system: many of each kind, with arguments that chance
+"""Which lines lines.py asks of a stored system: many of each kind, with arguments that chance
 picks from a fixed seed, and with those at the edges."""
 import random
 from typing import Sequence, TypeVar

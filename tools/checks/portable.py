@@ -1,14 +1,13 @@
-"""check-portable FOLDER..: checks the files for Linux on ARM64 in release/: whether they are those
+"""portable [FOLDER..]: checks the files for Linux on ARM64 in release/: whether they are those
 that were made, and of the C that wasm2c writes again. Then it runs them, by qemu if the processor
 is another one, on the stored sessions of these folders: sessions by pdp11, searches by search. It
 compares standard output, exit status and standard error byte for byte. It also runs what
-check-streams runs, but of the outputs that take a part of the replies each twentieth one, and
-disassemble on the words that its crate has. It compiles nothing: tools/portable --check does.
+the check streams runs, but of the outputs that take a part of the replies each twentieth one, and
+disassemble on the words that its crate has. It compiles nothing: tools/portable --check does. The
+folders are rows/program and rows/searches if none is given.
 
 The last line is 'N passed, M failed', and before it stands how many files were skipped: those that
 are older than the sources. The status is 77 if wasm2c or qemu isn't here, or no file was run."""
-import argparse
-import os
 import platform
 import shutil
 import sys
@@ -16,6 +15,7 @@ import tempfile
 from pathlib import Path
 from typing import Optional
 
+import sessions
 from portable_c import checking, files, made
 from webassembly.making import Counts
 
@@ -66,20 +66,8 @@ def check(folders: list[str]) -> int:
 
 
 def main() -> int:
-    as_it_is = argparse.RawDescriptionHelpFormatter
-    parser = argparse.ArgumentParser(description=__doc__, formatter_class=as_it_is)
-    parser.add_argument("folders", metavar="FOLDER", nargs="+")
-    folders = parser.parse_args().folders
-    for it in folders:
-        if not Path(it).is_dir():
-            parser.error(f"{it}: no such folder")
-    try:
-        return check(folders)
-    except BrokenPipeError:
-        sys.stdout = open(os.devnull, "w")
-        return 1
-    except KeyboardInterrupt:
-        return 130
+    given = sessions.asked_folders(sessions.parser_of(__doc__)).folders
+    return check(sessions.folders_of(given, *by_node.FOLDERS))
 
 
 if __name__ == "__main__":

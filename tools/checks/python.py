@@ -1,9 +1,8 @@
-"""check-python: the Python of tools/ and of the package in src/ by mypy, with its strict settings,
+"""python: the Python of tools/ and of the package in src/ by mypy, with its strict settings,
 and by ruff, each as Python 3.9 has the language. It counts the files in which each finds nothing.
 mypy reads the modules, ruff the tools too. What isn't installed is skipped.
 
 The last line is 'N passed, M failed'. The status is 77 if neither is installed."""
-import argparse
 import json
 import os
 import re
@@ -11,6 +10,8 @@ import shutil
 import subprocess
 import sys
 from pathlib import Path
+
+import sessions
 
 FOLDER = Path(__file__).resolve().parents[1]
 SOURCES = FOLDER.parent / "src"
@@ -71,8 +72,7 @@ def check_end(ran: "subprocess.CompletedProcess[str]", wrong: set[str]) -> None:
 
 
 def main() -> int:
-    as_it_is = argparse.RawDescriptionHelpFormatter
-    argparse.ArgumentParser(description=__doc__, formatter_class=as_it_is).parse_args()
+    sessions.parser_of(__doc__).parse_args()
     passed = failed = 0
     checkers = {
         "mypy": (wrong_by_mypy, modules()),

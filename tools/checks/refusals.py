@@ -194,6 +194,7 @@ def tasks_of(
     asked: sessions.Asked, library: str, ending: str, past_start: bool
 ) -> Iterator[Task]:
     """What is refused to each session."""
+    program: str = asked.words["program"]
     starts: dict[tuple[str, ...], int] = {}
     stored = (it for folder in asked.folders for it in sessions.sessions_of(folder, ending))
     found = (it for it in stored if os.path.basename(it.folder) != LEFT_OUT)
@@ -201,26 +202,29 @@ def tasks_of(
         words, first = tuple(session.args), 0
         if words not in starts:
             first = OF_OTHER_STARTS if starts else NONE
-            starts[words] = requests_of_start(asked.program, library, session)
+            starts[words] = requests_of_start(program, library, session)
         past = starts[words]
         yield Task(session, 0 if past_start else min(first, past), past, not past_start)
 
 
 def main() -> int:
-    asked = sessions.asked(__doc__ or "", "--past-start", "--searches")
+    parser = sessions.parser_of(__doc__)
+    parser.add_argument("program", metavar="PROGRAM", type=sessions.existing_program)
+    asked = sessions.asked(parser, "--past-start", "--searches")
+    program = asked.words["program"]
     ending = ".search" if "--searches" in asked.flags else ".session"
     past_start = "--past-start" in asked.flags
     if shutil.which(COMPILER) is None:
         print(f"{COMPILER} isn't installed")
         return SKIPPED
-    if not takes_libraries(asked.program):
-        print(f"{asked.program} takes no library, so no allocator can be preloaded to it")
+    if not takes_libraries(program):
+        print(f"{program} takes no library, so no allocator can be preloaded to it")
         return SKIPPED
     passed = failed = 0
     with tempfile.TemporaryDirectory() as room, ThreadPoolExecutor(os.cpu_count()) as pool:
         library = build_library(room)
         tasks = tasks_of(asked, library, ending, past_start)
-        for right, faults in pool.map(lambda it: try_each(asked.program, library, it), tasks):
+        for right, faults in pool.map(lambda it: try_each(program, library, it), tasks):
             passed, failed = passed + right, failed + len(faults)
             print("".join(f"{fault}\n" for fault in faults), end="", flush=True)
     if passed == 0:

@@ -1,4 +1,4 @@
-"""check-rules [RULE]: follows each numbered rule of docs/MACHINE.md to the definitions that state
+"""rules [RULE]: follows each numbered rule of docs/MACHINE.md to the definitions that state
 it and to the sessions that show it.
 
 With a number, as 4.12, it prints the rule, each definition under crates/ in whose comment the
@@ -9,13 +9,14 @@ that have both; that no number is given twice, and a section's numbers are 1 to 
 each number in brackets is a rule; and that [P] stands in crates/ only in comments of definitions
 and in public docstrings, as far as form tells. The last line is 'N passed, M failed': it counts
 rules, sections, and files that have a number in brackets or [P]."""
-import argparse
 import os
 import re
 import sys
 from collections import Counter, defaultdict
 from pathlib import Path
 from typing import Iterator, NamedTuple, Optional
+
+import sessions
 
 ROOT = Path(os.path.normpath(os.path.join(os.path.dirname(os.path.abspath(__file__)), "..", "..")))
 MACHINE = "docs/MACHINE.md"
@@ -257,7 +258,7 @@ def shown(found: Rules, number: str) -> list[str]:
 def show(root: Path, number: str) -> int:
     lines = shown(read(root), number)
     if not lines:
-        print(f"check-rules: {MACHINE} has no rule {number}", file=sys.stderr)
+        print(f"check: {MACHINE} has no rule {number}", file=sys.stderr)
         return 2
     print("\n".join(lines))
     return 0
@@ -273,8 +274,7 @@ def check(root: Path) -> int:
 
 
 def main() -> int:
-    as_it_is = argparse.RawDescriptionHelpFormatter
-    parser = argparse.ArgumentParser(description=__doc__, formatter_class=as_it_is)
+    parser = sessions.parser_of(__doc__)
     parser.add_argument("rule", nargs="?", metavar="RULE", help="the number of a rule, as 4.12")
     rule = parser.parse_args().rule
     return check(ROOT) if rule is None else show(ROOT, rule)

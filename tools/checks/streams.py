@@ -1,9 +1,8 @@
-"""check-streams PROGRAM: runs a built program on streams that fail, and on the largest images. An
+"""streams: runs pdp11 on streams that fail, and on the largest images. An
 input that can't be read, an output that takes nothing, and one that takes the first bytes of the
 replies, for each number of bytes, end it with status 3. A reply is out before the next line is
 read. An image is read to its last word, also if it comes in two parts, and one that is longer by a
 word or a byte is refused with status 5. The last line is 'N passed, M failed'."""
-import argparse
 import os
 import resource
 import select
@@ -14,6 +13,7 @@ import time
 from typing import BinaryIO, Callable, Iterator, Optional, Union
 
 import sessions
+from tests import under_test
 
 # The bytes of the largest image, what is longer by as little as can be, and a question about the
 # last word, with its reply.
@@ -28,8 +28,7 @@ INPUT_OR_OUTPUT = (3, "pdp11: input or output\n")
 BAD_IMAGE = (5, "pdp11: refused 14 BadImage\n")
 # What is asked of an output that takes a part of the replies.
 LINES = "regs 0\nno line\nversion 3\ncore 0 7\nmem 0 0 2\n"
-# How long a reply may take, and how long the second part of an image waits.
-LONGEST, PAUSE = 10, 0.5
+PAUSE = 0.5  # seconds that the second part of an image waits
 
 
 def ended(
@@ -103,7 +102,7 @@ def replies_at_once(program: str) -> bool:
         assert ran.stdin is not None
         ran.stdin.write(b"regs 0\n")
         ran.stdin.flush()
-        return bool(select.select([ran.stdout], [], [], LONGEST)[0])
+        return bool(select.select([ran.stdout], [], [], sessions.SECONDS)[0])
 
 
 def takes_two_parts(program: str) -> bool:
@@ -144,10 +143,8 @@ def runs(program: str, step: int = 1) -> list[tuple[str, bool]]:
 
 
 def main() -> int:
-    as_it_is = argparse.RawDescriptionHelpFormatter
-    parser = argparse.ArgumentParser(description=__doc__, formatter_class=as_it_is)
-    parser.add_argument("program", metavar="PROGRAM", type=sessions.existing_program)
-    found = runs(parser.parse_args().program)
+    sessions.parser_of(__doc__).parse_args()
+    found = runs(under_test.by_its_name("pdp11"))
     wrong = [name for name, is_well in found if not is_well]
     print("".join(f"{name}: another end\n" for name in wrong), end="")
     print(f"{len(found) - len(wrong)} passed, {len(wrong)} failed")

@@ -1,4 +1,4 @@
-"""A stored system for check-lines: the edits of a session, what they make of setup and script, and
+"""A stored system for lines.py: the edits of a session, what they make of setup and script, and
 what each turn is, asked by lines of the session language alone."""
 import os
 from typing import NamedTuple

@@ -1,4 +1,4 @@
-"""The completions of the disk, computed for check-lines from the registers of the devices before
+"""The completions of the disk, computed for lines.py from the registers of the devices before
 each turn, the script and the delay of the disk, by the rules of the RK11."""
 from typing import NamedTuple, Optional
 

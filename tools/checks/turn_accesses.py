@@ -1,4 +1,4 @@
-"""What turns of a stored system have in them, computed for check-lines: cycles by explore's own
+"""What turns of a stored system have in them, computed for lines.py: cycles by explore's own
 rules, the rest from lines of the session language."""
 import functools
 from contextlib import closing

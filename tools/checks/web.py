@@ -1,16 +1,15 @@
-"""check-web [--refusals] [--programs FOLDER] SESSIONS..: runs the stored sessions of these folders
-on pdp11.wasm and search.wasm by node and the page's host (web/host.js), and compares output, exit
+"""web-sessions [--programs MODULES] [FOLDER..]: runs the stored sessions of these folders on
+pdp11.wasm and search.wasm by node and the page's host (web/host.js), and compares output, exit
 status and standard error byte for byte; search.wasm waits for each line, as in the page. So is
-disassemble.wasm run on the words that its crate has beside it, with what they must give. With
---refusals the host's heap refuses requests for memory. FOLDER has the modules. It is release/ if it
-isn't given; then a module that is older than the sources is left out.
+disassemble.wasm run on the words that its crate has beside it, with what they must give. In
+web-refusals (--refusals) the host's heap refuses requests for memory. MODULES is the folder of the
+modules, release/ if it isn't given; then a module that is older than the sources is left out.
 
 The last line is 'N passed, M failed', and before it stands how many modules were left out. The
 status is 77 if nothing was run: without node too."""
 import argparse
 import base64
 import json
-import os
 import re
 import shutil
 import subprocess
@@ -63,25 +62,12 @@ def counted(test: str, name: str, module: Path, stored: Path) -> list[int]:
 
 
 def main() -> int:
-    try:
-        return check_modules()
-    except BrokenPipeError:
-        sys.stdout = open(os.devnull, "w")
-        return 1
-    except KeyboardInterrupt:
-        return 130
-
-
-def check_modules() -> int:
-    as_it_is = argparse.RawDescriptionHelpFormatter
-    parser = argparse.ArgumentParser(description=__doc__, formatter_class=as_it_is)
+    parser = sessions.parser_of(__doc__)
     parser.add_argument("--refusals", action="store_true")
-    parser.add_argument("--programs", metavar="FOLDER", type=Path, default=files.RELEASE)
-    parser.add_argument("folders", metavar="SESSIONS", nargs="+")
-    found = parser.parse_args()
-    for it in found.folders:
-        if not Path(it).is_dir():
-            parser.error(f"{it}: no such folder")
+    parser.add_argument("--programs", metavar="MODULES", type=Path, default=files.RELEASE)
+    found = sessions.asked_folders(parser)
+    usual = ["rows/refused-memory"] if found.refusals else ["rows", "tables", "examples"]
+    folders = sessions.folders_of(found.folders, *usual)
     if shutil.which("node") is None:
         print("node isn't installed")
         return SKIPPED
@@ -89,7 +75,7 @@ def check_modules() -> int:
     names = files.WAITING if found.refusals else (*files.WAITING, "disassemble")
     with tempfile.TemporaryDirectory() as room:
         stored = Path(room) / "sessions.json"
-        write_sessions(found.folders, stored)
+        write_sessions(folders, stored)
         return outcome(parser, found.programs, names, test, stored)
 
 

@@ -150,5 +150,5 @@ def turned(document: Document, names: set[str]) -> Turned:
     page.close()
     places = [place_of(page.name, it) for it in anchors_of(document)]
     if [it.place for it in page.headings] != places:
-        raise NotTurned(f"{document.name}: {MAKER} finds other headings than tools/check-docs")
+        raise NotTurned(f"{document.name}: {MAKER} finds other headings than tools/check documents")
     return page

@@ -1,7 +1,11 @@
 """Runs the tests of one folder as a part of the gate, and counts them."""
+import argparse
 import sys
 import unittest
 from pathlib import Path
+from typing import Optional
+
+from .quick import QUICK
 
 FOLDER = Path(__file__).resolve().parent
 # If more tests in a browser fail than these, none is run a second time.
@@ -88,6 +92,23 @@ def count(suite: unittest.TestSuite) -> int:
     print(f"{max(0, all_of_them - passed - failed)} skipped")
     print(f"{passed} passed, {failed} failed")
     return int(failed > 0)
+
+
+def parser_of(description: Optional[str]) -> argparse.ArgumentParser:
+    """The arguments of what runs a folder that has quick tests."""
+    as_it_is = argparse.RawDescriptionHelpFormatter
+    parser = argparse.ArgumentParser(description=description, formatter_class=as_it_is)
+    parser.add_argument("--quick", action="store_true", help="the tests of QUICK in tests/quick.py")
+    return parser
+
+
+def run_quick(folder: str) -> int:
+    """Runs the quick tests of a folder, and names the modules that are left out."""
+    there = [it.stem for it in sorted((FOLDER / folder).glob("test_*.py"))]
+    left_out = [it.removeprefix("test_") for it in there if it not in QUICK[folder]]
+    names = [f"tests.{folder}.{it}" for it in QUICK[folder]]
+    print(f"left out of {folder}: {', '.join(left_out)}")
+    return count(unittest.TestLoader().loadTestsFromNames(names))
 
 
 def run(folder: str, only: str = "") -> int:

@@ -12,6 +12,7 @@ from .steps import Source, Step, Steps
 MOST_LINES, MOST_LEVELS, MOST_NAMES = 100, 30, 6
 LONG_RUN, LOOKED_AT = 3, 40  # steps of one input each: from so many on they are one line
 FEW_TURNS, MOST_ENDS = 3, 6
+NOT_FOLLOWED, NOT_WHOLE = ", not followed", ", followed in part"
 OTHER_ENDS = {
     Kind.TAPE: "a byte of the tape",
     Kind.DEVICE: "what the register {:06o} showed",
@@ -33,12 +34,14 @@ def ranges(numbers: Sequence[int]) -> str:
 
 @dataclass
 class Line:
-    """A line, which ends with what its step is. Before it stand the steps of a run, if any."""
+    """A line, which ends with what its step is. Before it stands a run, which its step went into,
+    if any."""
 
     depth: int
     head: str
     step: Step
     written: int  # the cell that the step wrote
+    run_head: str = ""
     run: Sequence[Step] = ()
     note: str = ""
 
@@ -164,7 +167,7 @@ class Account:
             return []
         self.shown.add(step)
         if step in self.steps.left:
-            line.note = " .. followed in part" if sources else " .. not followed"
+            line.note = NOT_WHOLE if sources else NOT_FOLLOWED
         return sources
 
     def is_full(self, depth: int) -> bool:
@@ -176,32 +179,35 @@ class Account:
         return f"{self.named(source.cell, step.turn)}{self.copied(source.copies)} <- "
 
     def add_run(self, line: Line) -> bool:
-        """One value that goes through many operations: one line for all of them."""
-        run = self.steps.run_of_one(line.step)
-        if len(run) <= LONG_RUN:
+        """One value that goes through many operations before this one: one line for all."""
+        run = self.steps.run_of_one(line.step)[1:]
+        if len(run) < LONG_RUN:
             return False
         self.shown.update(run)
-        (source,) = self.steps.sources(run[-1])
+        (first,), (source,) = map(self.steps.sources, (line.step, run[-1]))
         begin = len(self.lines)
         self.add(source, line.depth + 1, self.head(run[-1], source))
         if begin < len(self.lines):
+            self.lines[begin].run_head = self.head(line.step, first)
             self.lines[begin].run = run
         return True
 
-    def run_in_words(self, run: Sequence[Step]) -> str:
-        names = dict.fromkeys(operation(self.texts[it.turn]) for it in run[:LOOKED_AT])
-        shown = " ".join(list(names)[:MOST_NAMES])
-        more = " .." if len(names) > MOST_NAMES or len(run) > LOOKED_AT else ""
+    def run_in_words(self, line: Line) -> str:
+        run = line.run
+        names = list(dict.fromkeys(operation(self.texts[it.turn]) for it in run[:LOOKED_AT]))
+        last = f"the last {LOOKED_AT}: " if len(run) > LOOKED_AT else ""
+        others = " and others" if len(names) > MOST_NAMES else ""
+        shown = f"{last}{' '.join(names[:MOST_NAMES])}{others}"
         turns = f"turns {run[-1].turn} to {run[0].turn}"
-        return f"{len(run)} operations on this one value ({shown}{more}) in {turns} <- "
+        return f"{line.run_head}{len(run)} operations on it ({shown}) in {turns}, from "
 
     def written(self) -> Iterator[str]:
         """The lines as they are shown."""
         self.know(it.step for it in self.lines)
         self.know(step for it in self.lines for step in it.run[:LOOKED_AT])
         for it in self.lines:
-            run = self.run_in_words(it.run) if it.run else ""
-            yield f"{'  ' * it.depth}{it.head}{run}{self.made(it)}{it.note}"
+            run = self.run_in_words(it) if it.run else ""
+            yield f"{'  ' * it.depth}{run}{it.head}{self.made(it)}{it.note}"
         if self.is_cut:
             yield "  .. further lines aren't shown; what follows counts all steps"
 

@@ -1,4 +1,5 @@
 """Stops of one's own: `break`, `watch`, `catch`, `breakpoints`, `delete`, `continue`."""
+import re
 from typing import Iterator, Optional
 
 from .. import sessions
@@ -13,6 +14,7 @@ from .replies import Mode, WordRead, turns_of
 from .search import word_of
 
 MOST_PARTS = 4  # of a CONDITION
+OPERATOR = re.compile(r"\s*(==|!=|=|<|>|&)\s*")
 NONE_SET = (
     "no breakpoint is set: break X, watch A, rwatch A, catch vector V or catch trap V sets one"
 )
@@ -54,10 +56,17 @@ def named(explorer: Explorer, mode: str, address: int) -> str:
     return f" ({names.pop()})" if len(names) == 1 else ""
 
 
+def condition_in_words(text: str) -> str:
+    """A CONDITION in words: gdb, editors and their users write == and && and no spaces."""
+    joined = text.replace("&&", " and ")
+    spaced = OPERATOR.sub(lambda it: f" {'=' if it[1] == '==' else it[1]} ", joined)
+    return " ".join(spaced.split())
+
+
 def condition_sought(explorer: Explorer, parts: list[str]) -> str:
     """A CONDITION of these parts, in the words of a search, if the program takes it."""
     machine, begin = explorer.machine, "first 0 0 "
-    line = f"{begin}where {' and '.join(parts)}"
+    line = f"{begin}where {' and '.join(map(condition_in_words, parts))}"
     line = explorer.symbols.line_in_octal(line, machine)
     if machine.ask(line).startswith("refused 10"):
         most = MOST_PARTS - (len(parts) - 1)

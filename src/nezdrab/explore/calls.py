@@ -4,8 +4,8 @@ from typing import Iterator
 from .commands import Arguments, Explorer, command, turns_between
 from .errors import ExploreError
 from .in_words import span
-from .levels import CHECKED_TURNS, MOST_WORDS_OF_A_STACK, Call, Level, Stacks, call_in, left_in
-from .levels import pointer
+from .levels import CHECKED_TURNS, MOST_WORDS_OF_A_STACK, Call, Level, Return, Stacks
+from .levels import call_in, pointer
 from .machine import LAST_TURN, Machine
 from .stepping import shown
 
@@ -66,11 +66,16 @@ def doubt_lines(level: Level) -> Iterator[str]:
 
 
 def after_return(explorer: Explorer, call: Call, turns: range) -> Iterator[str]:
-    found = left_in(explorer.machine, call, turns)
+    sought = Return(explorer.machine, call)
+    found = sought.first(turns)
+    loaded = f"{pointer(call.inside)} was loaded in turn {(sought.away or 0) - 1}"
     if found is None:
-        yield f"the call in turn {call.turn} doesn't return in {span(turns)}"
-    else:
-        yield from shown(explorer, found)
+        away = "" if sought.away is None else f"; {loaded}, as when stacks are switched"
+        yield f"the call in turn {call.turn} doesn't return in {span(turns)}{away}"
+        return
+    if sought.away is not None:
+        yield f"{loaded}, and the routine was left by that: PC isn't its return address"
+    yield from shown(explorer, found)
 
 
 def turns_ahead(explorer: Explorer, arguments: Arguments) -> range:
@@ -85,8 +90,10 @@ def finish(explorer: Explorer, arguments: Arguments) -> Iterator[str]:
     shows it as `show` does. The routine is that of the innermost level of `calls`, which says
     what is known of it. It has returned once SP is above what its call pushed, or once the other
     coroutine goes on by JSR PC,@(SP)+. So it counts if the routine takes its return address off the
-    stack itself, and if SP is switched to a stack above. Without `to` the search goes on to the end
-    of the run: it may take long, and Ctrl-C ends it."""
+    stack itself. If SP is loaded with an address above, as when tasks are switched, the search goes
+    on until it is loaded to come back; if calls push there first, the routine was left by that, and
+    a line says so. Without `to` the search goes on to the end of the run: it may take long, and
+    Ctrl-C ends it."""
     turns, level = turns_ahead(explorer, arguments), innermost(explorer)
     yield from doubt_lines(level)
     yield from after_return(explorer, level.call, turns)

@@ -1,7 +1,10 @@
 """The table of explore's own commands. Each module adds its commands to it."""
 import itertools
 import re
+from collections.abc import MutableMapping
 from dataclasses import dataclass, field
+from functools import cached_property
+from importlib import import_module
 from pathlib import Path
 from typing import Callable, Iterator, Optional
 
@@ -154,7 +157,7 @@ class Command:
     """A command: its form, the words that have this form, and what it is for."""
 
     form: str
-    pattern: "re.Pattern[str]"
+    source: str  # of the pattern
     summary: str
     detail: str
     run: Run
@@ -165,6 +168,10 @@ class Command:
     @property
     def name(self) -> str:
         return self.form.split()[0]
+
+    @cached_property
+    def pattern(self) -> "re.Pattern[str]":
+        return re.compile(self.source)
 
     def lines(self, explorer: Explorer, words: str) -> Iterator[str]:
         match = self.pattern.fullmatch(words.strip(" \t"))
@@ -204,7 +211,52 @@ class Command:
         return any(map(self.pattern.fullmatch, as_one))
 
 
-COMMANDS: dict[str, Command] = {}
+# Which module has which commands, in the order in which the manual page shows them.
+MODULES = {
+    **{"compare": "compare", "console": "console", "edits": "undo redo drop", "listing": "list"},
+    **{"dump": "dump", "profile": "profile", "load": "load symbols names", "covered": "covered"},
+    **{"export": "export", "script": "events save type", "page": "page", "screen": "screen"},
+    **{"search": "until next first where", "stepping": "step back run"},
+    "calls": "calls finish reverse-finish over reverse-over",
+    "breaking": "break watch rwatch catch breakpoints delete continue reverse-continue",
+    **{"changes": "changes", "difference": "diff", "follow": "follow", "accesses": "accesses"},
+    **{"lost": "lost", "sweep": "sweep", "matters": "matters", "reads": "reads"},
+    **{"seeing": "see show", "why": "why", "images": "core disk", "simh": "import"},
+    **{"defining": "define undefine defines", "display": "display undisplay", "do_file": "do"},
+    **{"expecting": "expect", "log": "log"},
+}
+
+
+class Commands(MutableMapping[str, Command]):
+    """The commands by their names. The module of one is read when the command is asked for."""
+
+    def __init__(self) -> None:
+        self.modules = {it: name for name, words in MODULES.items() for it in words.split()}
+        self.found: dict[str, Command] = {}
+
+    def __getitem__(self, name: str) -> Command:
+        if name not in self.found and name in self.modules:
+            import_module(f".{self.modules[name]}", __package__)
+        return self.found[name]
+
+    def __setitem__(self, name: str, command: Command) -> None:
+        self.modules.setdefault(name, "")
+        self.found[name] = command
+
+    def __delitem__(self, name: str) -> None:
+        del self.modules[name], self.found[name]
+
+    def __contains__(self, name: object) -> bool:
+        return name in self.modules
+
+    def __iter__(self) -> Iterator[str]:
+        return iter(self.modules)
+
+    def __len__(self) -> int:
+        return len(self.modules)
+
+
+COMMANDS = Commands()
 
 
 def check_turn(turn: int) -> None:
@@ -265,7 +317,7 @@ def command(form: str, pattern: str, summary: str) -> Callable[[Run], Run]:
 
     def register(run: Run) -> Run:
         detail = "\n".join(line.strip() for line in (run.__doc__ or "").strip().splitlines())
-        made = Command(form, re.compile(whole), summary, detail, run, *kinds.values())
+        made = Command(form, whole, summary, detail, run, *kinds.values())
         COMMANDS[made.name] = made
         return run
 
@@ -283,9 +335,16 @@ def turn_range(arguments: Arguments, first: int = 0, turns: int = SEARCHED_TURNS
     return turns_between(begin, arguments.decimal("last", end))
 
 
-def searched_range(explorer: Explorer, arguments: Arguments) -> range:
-    """The turns of a search. Without `to` they go on to the greatest turn that was asked so far,
-    and then a million further."""
-    begin = arguments.decimal("first")
+def searched_range(explorer: Explorer, arguments: Arguments, first: int = 0) -> range:
+    """The turns of a search, without `from` those from `first` on. Without `to` they go on to the
+    greatest turn that was asked so far, and then a million further."""
+    begin = arguments.decimal("first", first)
     asked = max(0, explorer.machine.asked.greatest - begin)
-    return turn_range(arguments, turns=asked + SEARCHED_TURNS)
+    return turn_range(arguments, first, asked + SEARCHED_TURNS)
+
+
+def range_ahead(explorer: Explorer, arguments: Arguments) -> range:
+    """The same, but without `from` those behind the current turn. Behind turn 0, where explore
+    begins, they have that turn too."""
+    turn = explorer.turn
+    return searched_range(explorer, arguments, min(turn + 1, LAST_TURN) if turn else 0)

@@ -1,4 +1,5 @@
 """Lines that are shown at each new current turn: `display`, `undisplay`."""
+import re
 from typing import Iterator
 
 from .. import sessions
@@ -16,7 +17,8 @@ def check_only_shows(line: str) -> None:
     """An error if a line isn't one that only shows or finds something."""
     word = sessions.first_word(line)
     is_known = word in COMMANDS or word in FORMS or word in SEARCHES or word in LISTS
-    if not is_known or is_edit(line) or word in COMMANDS and not only_shows(word):
+    is_shown = word not in COMMANDS or only_shows(word) and not re.search(r"\sgraph\s", line)
+    if not is_known or is_edit(line) or not is_shown:
         raise ExploreError(f"'{word}' can't be displayed: a LINE shows or finds something")
 
 

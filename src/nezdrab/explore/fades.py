@@ -6,8 +6,9 @@ from ..sessions import words_of
 
 from .errors import ExploreError
 from .interrupts import INTERRUPTS
-from .language import FADING, MOST_DIGITS, PATCHES, is_decimal
+from .language import FADING, MOST_DIGITS, is_decimal
 from .machine import Machine, is_refused
+from .past import PATCHES
 
 MOST_TURNS = 20_000_000  # that edits are asked about from one question to the next
 LEAST_TURNS = 10_000  # that one edit counts for: to ask about it takes up to a stride

@@ -67,12 +67,12 @@ def write_to(device: FileIO, data: bytes) -> None:
 
 @dataclass
 class Output:
-    """The files that this run has written, the command that writes now, and whether it may
-    overwrite others."""
+    """Whether what writes now may overwrite files that this run hasn't written, how that is said,
+    and those that it has written."""
 
-    left: dict[Path, Stamp] = field(default_factory=dict)
-    command: str = ""
+    way: str = ""
     overwrites: bool = False
+    left: dict[Path, Stamp] = field(default_factory=dict)
 
     def target(self, path: Path) -> tuple[Path, Optional[os.stat_result]]:
         """What the path names, through links, and what is there. An error if it mustn't be
@@ -91,7 +91,7 @@ class Output:
         if not found.st_mode & 0o222 or not os.access(target, os.W_OK):
             raise ExploreError(f"{path} is read-only")
         if not self.overwrites and self.left.get(target) != stamp_of(found):
-            raise ExploreError(f"{path} is there already; {self.command}! overwrites it")
+            raise ExploreError(f"{path} is there already; {self.way} overwrites it")
         return target, found
 
     def write(self, path: Path, data: bytes) -> None:

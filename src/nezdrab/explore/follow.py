@@ -7,7 +7,7 @@ from .commands import Arguments, Explorer, command
 from .errors import ExploreError
 from .in_words import counted
 from .interrupts import INTERRUPTS
-from .labels import Carried, Labels, Moved, events_with_data
+from .labels import Brought, Carried, Labels, Moved, events_with_data
 from .listing import turns_in_words
 from .machine import LAST_TURN, Machine
 from .operands import Flow, How
@@ -51,18 +51,22 @@ class Followed:
     writes_of_printer: list[int] = field(default_factory=list)
     reached: set[int] = field(default_factory=set)
     end: int = 0  # the turn before which it was followed
+    is_read: bool = False
 
     def __post_init__(self) -> None:
-        self.brought: dict[int, list[tuple[Sequence[int], int]]] = {}
+        self.brought: dict[int, list[Brought]] = {}
         for it in events_with_data(self.machine):
-            mark = MARK if it.number == self.event.number else 0
-            self.brought.setdefault(it.turn, []).append((it.cells, mark))
+            self.brought.setdefault(it.turn, []).append(it)
 
     def turn(self, flow: Flow) -> None:
         self.end = flow.turn + 1
-        for cells, mark in self.brought.get(flow.turn, ()):
-            for cell in cells:
-                self.labels.put(cell, mark)
+        for it in self.brought.get(flow.turn, ()):
+            event = self.machine.event(it.number)
+            if event and self.labels.of(it.cells) and not self.is_read:
+                text = f"nothing has read it, and event {it.number} overwrites it: "
+                self.told.append(Told(flow.turn, text + event.explained()))
+            for cell in it.cells:
+                self.labels.put(cell, MARK if it.number == self.event.number else 0)
         if flow.transfer is not None:
             self.transfer(flow.transfer, self.labels.transfer(flow.transfer))
         if any(it.cell == TPB for it in flow.moves):
@@ -72,6 +76,7 @@ class Followed:
             self.branches.append(flow.turn)
         carried = self.labels.turn(flow.moves)
         if carried:
+            self.is_read = True
             self.act(flow.turn, carried)
 
     def act(self, turn: int, carried: Sequence[Carried]) -> None:

@@ -1,13 +1,16 @@
 """Words of other debuggers and simulators, gdb, rr and SIMH, and what to type here."""
 import re
 
+from .machine import LAST_TURN
 from .symbols import ADDRESS
 
 DUMPED = "`dump A C` shows C words from A on, `dump A C instructions` as many instructions"
 INSTRUCTIONS = "`list A C` shows C instructions from A on, `list` alone those at PC"
+DISPLAYED = "`display list` shows the instructions at PC after each step"
 STEP = "`step` shows the turn after the current one, be it an instruction or an interrupt"
 BACK = "`back` shows the turn before the current one"
 BREAK = "`break A` sets a breakpoint, `continue` goes on to it; `until PC A` finds the first turn"
+STAYS = "it stays until `delete N`"
 CONTINUE = "`continue` goes on to the next turn at a breakpoint"
 BACKWARDS = "`reverse-continue` goes back to the last turn at a breakpoint"
 OVER = "`over` steps over a call, `step` into it"
@@ -19,6 +22,8 @@ REGISTERS = "`show` has the registers, `pages N` the mapping, `devices N` the de
 DEPOSIT = "`core A W` sets the word at A from power-up on: it changes the past"
 RUN = "each turn is there already: `show N`, `text N`; `until PC A` finds the turn that comes to A"
 KEPT = "no state has to be kept: `show N` shows any turn, and `save FILE` saves the past"
+RECORDED = "each turn is recorded: `back`, `reverse-over` and `reverse-continue` go back"
+SHELL = "no line runs a command of the shell; `log FILE` and `save FILE` write files for others"
 BOOT = "`console from 0` sits down at power-up; examples/boot-rk0.session has a bootstrap"
 LINES = "`do FILE` does the lines of FILE, `define NAME LINE` makes a word of your own"
 ATTACH = "a disk is the option --disk FILE of explore; `import FILE` takes over commands of SIMH"
@@ -27,11 +32,14 @@ CALLER = f"{CALLS}; `reverse-finish` goes back to the call of the current routin
 CONDITIONS = "`break A if R0 > 5` sets a breakpoint that holds under a condition"
 GONE = "`breakpoints` lists breakpoints, `delete N` takes one away, `delete` all"
 EXPECT = "`expect TEXT` goes on to where TEXT has been printed"
+ROUTINES = "`profile N M` shows in which routines the turns were"
 EVALUATE = "`list A 1` shows the word at A as an instruction"
 
+NAMING = ("watch", "rwatch", "display")  # a register is typed after these without $ too
 # Each sentence has lines to type, in `such quotes`. A command of explore comes before a word here.
 FOREIGN = {
-    **dict.fromkeys(("b", "br", "tbreak"), BREAK),
+    **dict.fromkeys(("b", "br"), BREAK),
+    **dict.fromkeys(("tb", "tbreak"), f"{BREAK}; {STAYS}"),
     **dict.fromkeys(("c", "cont"), CONTINUE),
     "rc": BACKWARDS,
     **dict.fromkeys(("s", "si", "stepi"), STEP),
@@ -48,15 +56,21 @@ FOREIGN = {
     "d": f"{DEPOSIT}; `delete N` takes away a breakpoint",
     **dict.fromkeys(("dep", "deposit"), DEPOSIT),
     "set": f"{DEPOSIT}; `delay L N` sets how long a device takes; `define NAME LINE` makes a word",
+    "goto": "`show N` goes to turn N; `until PC A` finds the turn that comes to A",
+    "commands": "`display LINE` shows LINE after each move, also at each breakpoint",
+    **dict.fromkeys(("shell", "!"), SHELL),
+    "record": RECORDED,
+    "echo": "`# TEXT` is a comment in a script, and in the file of `log FILE`",
+    "apropos": "`help all` lists all commands and lines, `help WORD` says what one does",
     "history": "`see N C` shows the C turns before turn N; nothing has to be switched on for it",
-    **dict.fromkeys(("gprof", "perf"), "`profile N M` shows in which routines the turns were"),
+    **dict.fromkeys(("gprof", "perf"), ROUTINES),
     "gcov": "`covered FILE` shows a listing with how often each line ran",
     **dict.fromkeys(("callgrind", "lcov", "vcd", "gtkwave", "flamegraph"), VIEWERS),
     **dict.fromkeys(("r", "g", "go", "ru", "j", "jump", "start", "advance", "u"), RUN),
     **dict.fromkeys(("f", "frame", "up", "down"), CALLER),
     **dict.fromkeys(("cond", "condition", "ignore"), CONDITIONS),
     **dict.fromkeys(("nobr", "nobreak", "clear", "enable", "disable"), GONE),
-    **dict.fromkeys(("layout", "tui"), "`display list` shows the instructions at PC at each step"),
+    **dict.fromkeys(("layout", "tui"), DISPLAYED),
     **dict.fromkeys(("ev", "eval", "evaluate"), EVALUATE),
     "exp": EXPECT,
     "sh": REGISTERS,
@@ -93,4 +107,6 @@ def examined(word: str, rest: str) -> str:
 def sentence(word: str, rest: str = "") -> str:
     """What to type here in place of a line that begins with this word; an empty text if the word
     isn't foreign. SIMH takes capital letters too."""
-    return examined(word, rest) or FOREIGN.get(word.lower(), "")
+    if word.isdigit() and int(word) <= LAST_TURN:
+        return f"`show {word}` shows turn {word}, and makes it the current one"
+    return examined(word, rest) or FOREIGN.get("!" if word[:1] == "!" else word.lower(), "")

@@ -186,14 +186,15 @@ class Journal:
         cut = " .." if len(data) > LONGEST_PART else ""
         self.marks = [f"{OF_LINE}{data[:LONGEST_PART].decode(errors='surrogateescape')}{cut}"]
 
-    def add(self, before: Sequence[str], edits: Sequence[str]) -> None:
-        """Writes edits that were taken after these. What can't be written waits for the next."""
-        if edits:
-            self.waiting += ["\n".join([*self.marks, edits[0]]), *edits[1:]]
+    def add(self, edits: Sequence[str], count: int) -> None:
+        """Writes the last of all edits, which are new. What can't be written waits for the next."""
+        if count:
+            first, *others = edits[-count:]
+            self.waiting += ["\n".join([*self.marks, first]), *others]
             self.marks = []
         try:
             if self.handle is None:
-                self._create(before)
+                self._create(edits[: len(edits) - len(self.waiting)])
             if self.options is not None:
                 self._write_options(self.options)
                 self.options = None
@@ -210,7 +211,7 @@ class Journal:
         self.heading = [*lines, *(it for it in self.heading if not it.startswith(MARK))]
         if self.handle is not None:
             self.options = lines
-            self.add((), ())
+            self.add((), 0)
 
     def _write_options(self, lines: Sequence[str]) -> None:
         """Writes the file anew with these options, whole or not at all."""
@@ -270,7 +271,13 @@ class Journal:
             self.path = new_path()
         self.handle = opened(self.path, os.O_CREAT | os.O_EXCL)
         self.ends = [0]
-        self._write([*self.heading, *before, AT_THE_PROMPT])
+        try:
+            self._write([*self.heading, *before, AT_THE_PROMPT])
+        except OSError:
+            os.close(self.handle)
+            self.handle = None
+            self.path.unlink(missing_ok=True)
+            raise
         self.ends = self.ends[-1:]
         folder = os.open(self.path.parent, os.O_RDONLY)
         os.fsync(folder)

@@ -6,7 +6,7 @@ from typing import Optional
 from .. import sessions
 from ..sessions import words_of
 
-from .past import LINE_DEVICES
+from .past import LINE_DEVICES, PATCHES
 from .program import CONTROL
 from .visible import visible
 
@@ -75,7 +75,6 @@ SUMMARIES = {word_of(it): it.summary for it in sessions.LANGUAGE[: SINCE_VERSION
 LISTS = {it.form: it.summary for it in sessions.SEARCHES if " " not in it.form}
 SEARCHES = frozenset(word_of(it) for it in sessions.SEARCHES) - LISTS.keys()
 EDITS = frozenset(it.decode() for it in sessions.EDITS)
-PATCHES = ("core", "disk")
 FADING = (*PATCHES, "at", "alter", "drop")  # the edits that the line `fades` takes
 EVENTS, MEANINGS = sessions.EVENTS, sessions.REFUSALS
 

@@ -132,6 +132,12 @@ def is_load(word: Optional[int]) -> bool:
     return word is not None and (word & 0o170077 == 0o010006 or word == 0o006606)
 
 
+def loads_pointer(machine: Machine, turn: int) -> bool:
+    """Whether the turn is MOV to SP or MTPI to SP, as when stacks are switched."""
+    word = Done.of(machine, turn, machine.registers(turn)).word
+    return is_load(word) and call_in(machine, turn) is None
+
+
 @dataclass
 class Stacks:
     """Finds the calls on the stacks of a machine. `left` is how many turns it may still look
@@ -221,7 +227,7 @@ class Stacks:
             if self.left is not None:
                 self.left -= (part.stop if found is None else found) - part.start
             if found is not None:
-                return LOADED if self._loads_pointer(found - 1) else None
+                return LOADED if loads_pointer(self.machine, found - 1) else None
         return NOT_CHECKED if len(looked) < len(turns) else self._doubt_below(call, newest)
 
     def _doubt_below(self, call: Call, newest: int) -> str:
@@ -235,7 +241,7 @@ class Stacks:
             found = self._last_above(range(call.turn + 1, turn), pointer(call.inside), sp)
             if found is None:
                 break
-            if self._loads_pointer(found):
+            if loads_pointer(self.machine, found):
                 return LOADED
             turn, sp = found, self.sp_before(found, call.inside)
         return NOT_CHECKED
@@ -251,22 +257,49 @@ class Stacks:
                 return found
         return None
 
-    def _loads_pointer(self, turn: int) -> bool:
-        """Whether the turn is MOV to SP or MTPI to SP, as when stacks are switched."""
-        word = Done.of(self.machine, turn, self.machine.registers(turn)).word
-        return is_load(word) and self.call(turn) is None
 
+@dataclass
+class Return:
+    """Looks for where the routine of a call has been left, in turns that are asked upwards. `away`
+    is the turn before which SP was loaded with an address above, as when stacks are switched: if
+    it is loaded again to come back, the routine goes on, and otherwise it was left by that."""
 
-def left_in(machine: Machine, call: Call, turns: range) -> Optional[int]:
-    """The first of these turns before which the routine has been left: SP is above what the call
-    pushed, or another call has taken its place, as JSR PC,@(SP)+ does."""
-    for part in growing_parts(turns):
-        found = machine.found("first", part, call.is_left)
-        before = part if found is None else range(part.start, found)
-        resumed = resumed_in(machine, call, before)
-        if resumed is not None or found is not None:
-            return found if resumed is None else resumed
-    return None
+    machine: Machine
+    call: Call
+    away: Optional[int] = None
+
+    def first(self, turns: range) -> Optional[int]:
+        """The first turn before which the routine has been left: SP is above what the call pushed,
+        or another call has taken its place, as JSR PC,@(SP)+ does."""
+        for part in growing_parts(turns):
+            while part:
+                found = self.crossing(part)
+                if found is None:
+                    break
+                if not self.is_switched(found):
+                    return found if self.away is None else self.away
+                self.away = found if self.away is None else None
+                part = range(found, part.stop)
+        return None
+
+    def crossing(self, turns: range) -> Optional[int]:
+        """The first of these turns before which SP is above the call's words, or isn't any more, if
+        it was loaded so."""
+        call = self.call
+        if self.away is not None:
+            below = f"where {pointer(call.inside)} < {call.slot + 1:o}"
+            return self.machine.found("first", turns, below)
+        found = self.machine.found("first", turns, call.is_left)
+        before = turns if found is None else range(turns.start, found)
+        resumed = resumed_in(self.machine, call, before)
+        return found if resumed is None else resumed
+
+    def is_switched(self, turn: int) -> bool:
+        """Whether SP was loaded in the turn before, or the call's words are on a stack that is not
+        mapped then."""
+        asked = [(turn - 1, self.call.inside, self.call.slot)]
+        is_there = next(self.machine.places(asked)) == self.call.place
+        return not is_there or loads_pointer(self.machine, turn - 1)
 
 
 def resumed_in(machine: Machine, call: Call, turns: range) -> Optional[int]:

@@ -1,6 +1,6 @@
 """The machine that the program runs, with its edits."""
 import os
-from contextlib import contextmanager
+from contextlib import contextmanager, suppress
 from dataclasses import dataclass, field, replace
 from pathlib import Path
 from typing import Iterator, Optional, Sequence, TypeVar
@@ -14,7 +14,7 @@ from .interrupts import INTERRUPTS
 from .journal import Journal
 from .language import explanation, is_edit
 from .options import faults_of, options_of_words
-from .past import Event, Setup, without_zeros
+from .past import Event, Made, Setup, without_zeros
 from .program import Program, TimedOut
 from .replies import SPACES, Devices, LastWrite, Mode, Pages, Registers, Turn, TurnAccesses
 from .replies import accesses_of, listed, text_of, turns_of, words_of
@@ -102,12 +102,13 @@ class Machine:
     def __post_init__(self) -> None:
         self._setup: Optional[Setup] = None
         self._script: Optional[list[Event]] = None
+        self.is_ahead = False  # whether the program would give a later number to an event
         self._running: Optional[Program] = self._started()
 
     def begin(self) -> Program:
         """The program, started again if there is none."""
         if self.is_closed:
-            raise ProgramEnded("the program was closed")
+            raise ProgramEnded("the machine was closed")
         if self._running is None:
             self._running = self._started()
         return self._running
@@ -141,6 +142,7 @@ class Machine:
         """Ends the program. The next use starts it again, with all edits: only the states that it
         kept are lost."""
         self._setup = self._script = None
+        self.is_ahead = False
         if self._running is not None:
             running, self._running = self._running, None
             self.asked.turn = 0
@@ -175,14 +177,16 @@ class Machine:
     def edit_all(self, lines: Sequence[str]) -> list[str]:
         """The replies to edits, and to questions between them. All edits that were taken are kept,
         or none if the program ends."""
+        if self.is_ahead and any(first_word(it) == "at" for it in lines):
+            self.restart()
         self.begin()  # here, where Ctrl-C can stop it
         with INTERRUPTS.held():
             replies = list(self.ask_all(lines, SHORT_SENT_AHEAD))
             taken = [pair for pair in zip(lines, replies) if is_taken(pair[1])]
-            if self.file is not None and taken:
-                self.file.add(self.journal, [line for line, _ in taken])
             self.journal += [line for line, _ in taken]
             self.replies += [reply for _, reply in taken]
+            if self.file is not None and taken:
+                self.file.add(self.journal, len(taken))
             for word in {first_word(line) for line, _ in taken}:
                 if word in OF_EVENTS:
                     self._script = None
@@ -200,12 +204,21 @@ class Machine:
             yield
 
     def take_back(self, count: int) -> None:
-        """Takes the last edits back, as if they hadn't been made."""
+        """Takes the last edits back, as if they hadn't been made: by edits, if these give exactly
+        the past of before, or else by another program."""
         with INTERRUPTS.held():
-            self.restart()
+            now = Made.by(self.journal, self.replies)
             del self.journal[-count:], self.replies[-count:]
             if self.file is not None:
                 self.file.take_back(count)
+            past = Made.by(self.journal, self.replies)
+            edits = now.edits_to(past) if self._running else None
+            with suppress(ExploreError):
+                if edits is not None and all(map(is_taken, self.ask_all(edits, SHORT_SENT_AHEAD))):
+                    self._setup = self._script = None
+                    self.is_ahead = self.is_ahead or now.given > past.given
+                    return
+            self.restart()
 
     def ask_all(self, lines: Sequence[str], ahead: int = SENT_AHEAD) -> Iterator[str]:
         """The replies to lines, one by one. Edits among them aren't kept."""
@@ -258,6 +271,8 @@ class Machine:
         try:
             yield
         except ProgramEnded as error:
+            if self.is_closed:
+                raise
             self.restart()
             raise ProgramEnded(f"{error}; the next line starts it again, with all edits") from error
         except BaseException as error:

@@ -6,7 +6,6 @@ from dataclasses import replace
 from pathlib import Path
 from typing import Iterator, Optional
 
-from . import matters, sweep
 from .commands import Explorer, Step
 from .disassembly import Disassembler
 from .errors import ExploreError
@@ -14,9 +13,8 @@ from .in_words import counted
 from .interrupts import INTERRUPTS
 from .journal import NO_SESSION, OF_SESSION, Contents, Journal, in_use, newest, state_folder
 from .journal import there_already, told
-from .load import warnings_of
 from .machine import Machine, Start, existing_program, is_refused
-from .options import Options, Parser, ShowVersion, add_options, check_options, check_session
+from .options import FILES, Options, Parser, ShowVersion, add_options, check_options, check_session
 from .options import option_lines, options_of, words_of_options
 from .output import Unwritable, complain, fault_in_words, flush
 from .output import leave_streams, prepare_streams, put
@@ -167,8 +165,11 @@ def begun(found: argparse.Namespace) -> Explorer:
     taken_up = resumed(found) if found.resume is not None else None
     session = Path(found.session) if found.session else None
     options = options_of(found, taken_up or session)
-    for warning in warnings_of(options):
-        complain(warning)
+    if options.keys() & {*FILES}:
+        from .load import warnings_of  # which reads what knows kinds of files
+
+        for warning in warnings_of(options):
+            complain(warning)
     check_options(options, found, taken_up or session)
     program = existing_program(found.program) if found.program else found_program("search")
     machine = Machine(Start(program, words_of_options(options), Path.cwd()))
@@ -196,6 +197,8 @@ def has_part(found: argparse.Namespace) -> bool:
 
 def part_lines(explorer: Explorer, found: argparse.Namespace) -> Iterator[str]:
     """What a part of long work gives."""
+    from . import matters, sweep  # which a prompt reads when they are typed
+
     if found.sweep is not None:
         return sweep.raw_lines(explorer, found.sweep)
     return matters.raw_lines(explorer, found.matters)

@@ -4,6 +4,8 @@ from typing import Optional
 
 from .commands import Explorer, check_turn
 from .errors import ExploreError
+from .listing import IO_PAGE, UNIT_BYTES
+from .operand_values import NAMES_IN_THE_IO_PAGE
 from .replies import Mode
 from .symbols import ADDRESS
 
@@ -13,15 +15,17 @@ MAPPED_HELP = (
     "`watch A`, `rwatch A` and `why A`, A may be `kernel A` or `user A`, an address as a program "
     "of that mode has it. It stands for the address of core that a read before turn N comes to; "
     "without N it is the turn of `from`, in `why` that of `at`, or the current turn. In other "
-    "turns it may be another one."
+    "turns it may be another one. A line that takes a word of core from 160000 to 177777 says so, "
+    "if the mode of the current turn has the I/O page there."
 )
-VIRTUAL_LINE = re.compile(
-    r"(?P<before>(last[ \t]+(?P<last>[0-9]{1,10})|writes[ \t]+(?P<writes>[0-9]{1,10})"
-    r"[ \t]+[0-9]{1,10}|next|changes|watch|reads|rwatch|(?P<why>why)|first[ \t]+core)[ \t]+)"
-    r"(?P<mode>kernel|user)[ \t]+(?!(from|to)[ \t])"
+WORD_LINE = re.compile(
+    r"(?P<before>((?P<bare>mem[ \t]+[0-9]{1,10}|reads([ \t]+[0-9]{1,10}){2}|(un)?core)"
+    r"|last[ \t]+(?P<last>[0-9]{1,10})|writes[ \t]+(?P<writes>[0-9]{1,10})[ \t]+[0-9]{1,10}"
+    r"|next|changes|watch|reads|rwatch|(?P<why>why)([ \t]+core)?|first[ \t]+core)[ \t]+)"
+    r"((?P<mode>kernel|user)[ \t]+(?!(from|to)[ \t]))?"
     rf"(?P<address>{ADDRESS})(?P<after>(?![^\s=]).*)"
 )
-LARGEST = 0o177777
+FIRST_OF_IO, LARGEST = 0o160000, 0o177777
 
 
 def turn_of(explorer: Explorer, found: "re.Match[str]") -> int:
@@ -36,10 +40,14 @@ def turn_of(explorer: Explorer, found: "re.Match[str]") -> int:
 
 def in_core(explorer: Explorer, line: str) -> Optional[tuple[str, str]]:
     """For a line with `kernel A` or `user A`: the line with an address of core, and a line that
-    says which. An address that can't be read is an error."""
-    found = VIRTUAL_LINE.fullmatch(line.strip(" \t"))
-    if found is None:
+    says which. An address that can't be read is an error. For a line with an address of core that
+    programs have in the I/O page: the line, and that it isn't about a register."""
+    found = WORD_LINE.fullmatch(line.strip(" \t"))
+    if found is None or found["bare"] and found["mode"]:
         return None
+    if not found["mode"]:
+        said = beside_register(explorer, found["address"])
+        return (line, said) if said else None
     mode, turn = found["mode"], turn_of(explorer, found)
     address = explorer.symbols.number(found["address"], Mode(mode))
     if address > LARGEST:
@@ -49,3 +57,22 @@ def in_core(explorer: Explorer, line: str) -> Optional[tuple[str, str]]:
     if why:
         raise ExploreError(f"{name} is no address of core before turn {turn}: {' '.join(why)}")
     return f"{found['before']}{place}{found['after']}", f"{name} is {place} before turn {turn}"
+
+
+def beside_register(explorer: Explorer, text: str) -> str:
+    """That a line takes the word of core at this address, where the mode of the current turn has
+    the I/O page."""
+    try:
+        address = explorer.symbols.number(text)
+    except ExploreError:
+        return ""
+    machine, turn = explorer.machine, explorer.turn
+    is_near = FIRST_OF_IO <= address <= LARGEST
+    if not is_near or address >= machine.setup.units * UNIT_BYTES:
+        return ""
+    mode = machine.registers(turn).mode
+    (place,) = machine.places([(turn, mode, address & ~1)])
+    if place is None or place < IO_PAGE:
+        return ""
+    there = f"{place:06o}, {NAMES_IN_THE_IO_PAGE.get(place, 'no register')}, before turn {turn}"
+    return f"{address:06o} is the word of core here; {mode.value} {address:06o} is {there}"

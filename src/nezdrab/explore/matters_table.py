@@ -2,14 +2,15 @@
 import os
 import re
 from dataclasses import dataclass
-from typing import Iterator, Mapping, Sequence
+from typing import Iterable, Iterator, Mapping, Sequence
 
 from .in_words import counted
 from .machine import LAST_TURN
 from .moves import Tried, Way
 from .past import Event
 
-LONGEST_VALUE, SHOWN_BEFORE = 24, 6  # of a value in the table, in characters
+# Of a value in the table, in characters.
+LONGEST_VALUE, SHOWN_BEFORE, NEAR_DIFFERENCE = 24, 6, 24
 LONGEST_REPLY = 160
 FAR = LAST_TURN + 1
 TITLES = ("event", "turn", "what", "dropped", "earlier", "later")
@@ -30,24 +31,24 @@ class Row:
         is_same = self.tried[Way.DROPPED].change is None
         return nearest, is_same, self.event.turn, self.event.number
 
-    def cells(self, reply: str, is_near: bool) -> list[str]:
+    def cells(self, beside: "Beside", is_near: bool) -> list[str]:
         number, turn, text = self.event
         dropped = self.tried[Way.DROPPED]
-        moved = [moved_cell(self, it, reply, is_near) for it in (Way.EARLIER, Way.LATER)]
-        return [str(number), str(turn), text, dropped_cell(dropped, reply), *moved]
+        moved = [moved_cell(self, it, beside, is_near) for it in (Way.EARLIER, Way.LATER)]
+        return [str(number), str(turn), text, dropped_cell(dropped, beside), *moved]
 
 
-def dropped_cell(tried: Tried, reply: str) -> str:
+def dropped_cell(tried: Tried, beside: "Beside") -> str:
     if tried.change:
-        return value_beside(reply, tried.change.reply)
+        return beside.value(tried.change.reply)
     return "same" if tried.known else "not tried"
 
 
-def moved_cell(row: Row, way: Way, reply: str, is_near: bool) -> str:
+def moved_cell(row: Row, way: Way, beside: "Beside", is_near: bool) -> str:
     tried, event = row.tried[way], row.event
     if tried.change:
         doubt = "" if is_near or tried.is_nearest else " or less"
-        return f"by {tried.change.shift}{doubt}: {value_beside(reply, tried.change.reply)}"
+        return f"by {tried.change.shift}{doubt}: {beside.value(tried.change.reply)}"
     first, last = (event.turn, 0) if way is Way.EARLIER else (LAST_TURN - event.turn, LAST_TURN)
     if not first:
         return f"in turn {last}"
@@ -57,22 +58,39 @@ def moved_cell(row: Row, way: Way, reply: str, is_near: bool) -> str:
     return f"{'none found' if is_near else 'same'} (to {tried.same_to}{end})"
 
 
-def value_beside(before: str, after: str) -> str:
-    """A reply without its first word, or what it has around its first difference from another."""
-    ours, theirs = parts_of(before), parts_of(after)
-    between = "" if is_text(after) else " "
-    whole = between.join(theirs)
-    if len(whole) <= LONGEST_VALUE:
-        return whole or "no byte"
-    at = len(os.path.commonprefix([ours, theirs]))
-    begin = at
-    while begin and len(between.join(theirs[begin - 1 : at])) <= SHOWN_BEFORE:
-        begin -= 1
-    end = begin
-    while end < len(theirs) and len(between.join(theirs[begin : end + 1])) <= LONGEST_VALUE:
-        end += 1
-    value = between.join(theirs[begin:end])
-    return f"{'..' * (begin > 0)}{value}{'..' * (end < len(theirs))}"
+class Beside:
+    """Shows other replies beside this one: what each has around its first difference. Those whose
+    differences lie near each other begin at the same part."""
+
+    def __init__(self, reply: str, others: Iterable[str]):
+        self.parts, self.between = parts_of(reply), "" if is_text(reply) else " "
+        self.starts: list[int] = []
+        for begin in sorted(map(self.begin, others)):
+            if not self.starts or self.width(self.starts[-1], begin) > NEAR_DIFFERENCE:
+                self.starts.append(begin)
+
+    def width(self, begin: int, end: int) -> int:
+        return len(self.between.join(self.parts[begin:end]))
+
+    def begin(self, other: str) -> int:
+        """The part a little before the first difference."""
+        at = begin = len(os.path.commonprefix([self.parts, parts_of(other)]))
+        while begin and self.width(begin - 1, at) <= SHOWN_BEFORE:
+            begin -= 1
+        return begin
+
+    def value(self, other: str) -> str:
+        """A reply without its first word, or what it has from such a part on."""
+        parts, begin = parts_of(other), self.begin(other)
+        whole = self.between.join(parts)
+        if len(whole) <= LONGEST_VALUE:
+            return whole or "no byte"
+        start = max(it for it in self.starts if it <= begin)
+        end, longest = start, LONGEST_VALUE + self.width(start, begin)
+        while end < len(parts) and len(self.between.join(parts[start : end + 1])) <= longest:
+            end += 1
+        value = self.between.join(parts[start:end])
+        return f"{'..' * (start > 0)}{value}{'..' * (end < len(parts))}"
 
 
 def is_text(reply: str) -> bool:
@@ -89,17 +107,29 @@ def parts_of(reply: str) -> list[str]:
 def table(question: str, reply: str, rows: Sequence[Row], is_near: bool) -> Iterator[str]:
     shown = reply if len(reply) <= LONGEST_REPLY else f"..{reply[-LONGEST_REPLY:]}"
     yield f"matters: {question}    {shown}"
-    cells = [it.cells(reply, is_near) for it in sorted(rows, key=Row.order)]
+    changes = [tried.change for it in rows for tried in it.tried.values()]
+    beside = Beside(reply, (it.reply for it in changes if it))
+    cells = [it.cells(beside, is_near) for it in sorted(rows, key=Row.order)]
     if not cells:
         yield "no event is tried"
         return
-    widths = [max(map(len, column)) for column in zip(TITLES, *cells)]
-    for row in (TITLES, *cells):
+    columns = [(title, *with_values_below(it)) for title, it in zip(TITLES, zip(*cells))]
+    widths = [max(map(len, column)) for column in columns]
+    for row in zip(*columns):
         yield "  ".join(
             it.rjust(width) if at < TO_THE_RIGHT else it.ljust(width)
             for at, (it, width) in enumerate(zip(row, widths))
         ).rstrip()
     yield counted(len(rows), "event") + (NEAR if is_near else "")
+
+
+def with_values_below(column: Sequence[str]) -> Iterator[str]:
+    """The cells of a column, in which the values of moves stand below one another."""
+    moves = [it.partition(":")[0] for it in column if it.startswith("by ")]
+    width = 1 + max(map(len, moves), default=0)
+    for cell in column:
+        move, _, value = cell.partition(":")
+        yield f"{move + ':':<{width}}{value}" if cell.startswith("by ") else cell
 
 
 NEAR = "; moves that double were tried, and halves: a nearer one, or the only one, may be missed"

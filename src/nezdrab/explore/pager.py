@@ -3,7 +3,9 @@ import os
 import readline
 import select
 import sys
+import termios
 import textwrap
+import tty
 from dataclasses import dataclass
 from typing import Iterable, Iterator
 
@@ -13,8 +15,10 @@ from .output import put
 
 WIDTH, LEAST_WIDTH, MOST_WIDTH = 80, 20, 100
 DEEPER = 2  # further lines of a paragraph that is indented
-ENDING = "q"
-MORE = f"-- more: Enter; {ENDING} ends -- "
+MORE = "-- more: Enter; q ends -- "
+# What keys answer: whether there is to be more. Ctrl-D ends it, as q does.
+KEYS = {"\n": True, " ": True, "q": False, "\x04": False, "": False}
+MOST_BYTES = 65_536
 LINE_OF_SOURCE = 92  # columns of a docstring, without what it is indented by
 ENDS_OF_PARAGRAPHS = ("", ".", ":", ";")
 
@@ -83,24 +87,44 @@ class Pager:
             yield line
 
     def goes_on(self) -> bool:
-        """Whether the reader wants more. An answer is no line of the history. What was typed before
-        is none: it is for the prompt."""
+        """Whether the reader wants more. What was typed before is no answer: it is for the prompt,
+        and so is a line that begins with another key."""
         if select.select([sys.stdin], [], [], 0)[0]:
             return True
-        answer = self.answer()
-        if answer not in ("", ENDING):
-            self.line = answer
-            readline.add_history(answer)
-        return answer == ""
-
-    def answer(self) -> str:
-        readline.set_auto_history(False)
         try:
             with AtWork.hidden():
-                return typed_line(MORE).strip()
+                typed = struck(MORE)
+                if not typed[:1].strip().isprintable() or typed in KEYS:
+                    put("")
+                    return KEYS.get(typed, True)
+                self.line = begun_line(typed)
         except (EOFError, KeyboardInterrupt):
             INTERRUPTS.again()
             put("")
-            return ENDING
-        finally:
-            readline.set_auto_history(True)
+        return False
+
+
+def struck(question: str) -> str:
+    """The key that answers a question, or all that was pasted then."""
+    terminal = sys.stdin.fileno()
+    settings = termios.tcgetattr(terminal)
+    print(question, end="", flush=True)
+    try:
+        tty.setcbreak(terminal, termios.TCSADRAIN)
+        return os.read(terminal, MOST_BYTES).decode(errors="surrogateescape")
+    finally:
+        termios.tcsetattr(terminal, termios.TCSADRAIN, settings)
+
+
+def begun_line(text: str) -> str:
+    """A line that begins with this, once it is whole, in the place of the question."""
+    if "\n" in text:
+        put(text.strip())
+        readline.add_history(text.strip())
+        return text.strip()
+    readline.set_startup_hook(lambda: readline.insert_text(text))
+    try:
+        print("\r", end="", flush=True)
+        return typed_line(MORE).strip()
+    finally:
+        readline.set_startup_hook()

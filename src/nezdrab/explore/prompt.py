@@ -8,12 +8,6 @@ from typing import Iterable, Iterator, Optional, Sequence
 
 from .. import sessions
 
-# these add commands
-from . import compare, console, edits, export, listing, page, screen, script, search  # noqa: F401
-from . import breaking, calls, changes, covered, difference, dump, follow  # noqa: F401
-from . import accesses, lost, matters, profile, reads, seeing, stepping, sweep, why  # noqa: F401
-from . import images, load, simh  # noqa: F401
-from . import defining, display, do_file, expecting, log  # noqa: F401
 from .at_work import AtWork
 from .commands import COMMANDS, ENDS, PROMPT, Explorer, Interpreter
 from .completion import HELP, completions
@@ -22,8 +16,7 @@ from .display import displays_after_move
 from .errors import ExploreError, LineRefused
 from .fades import MOST_TURNS
 from .files import OUTPUT
-from .foreign import sentence
-from .habits import led_on, names_register
+from .foreign import NAMING, sentence
 from .in_words import counted
 from .interrupts import INTERRUPTS, typed_line
 from .journal import state_folder
@@ -33,7 +26,6 @@ from .machine import is_refused
 from .mapped import MAPPED_HELP, MAPPED_WORDS, in_core
 from .output import LINES, Unwritable, fault_in_words, flush, put
 from .pager import Pager, fit, paragraphs_of
-from .patching import is_instruction
 from .quotes import RULE
 from .topics import LINES as LINES_OF, TOPICS, command_lines, commands_of, forms_in_lines
 from .topics import SESSION, language_lines, search_lines
@@ -42,7 +34,7 @@ BLANKS = " \t"
 INTRODUCTION = "lines of the session language, and help, console, see, until ..; quit ends"
 OWN_HELP = {
     "help": ("help [TOPIC|WORD|all]", "what there is, or what the command WORD does"),
-    "quit": ("quit", "ends, as q, exit and Ctrl-D do; quit! drops edits that weren't saved"),
+    "quit": ("quit", "ends, as q, exit and Ctrl-D do, unless edits would be lost; quit! drops them"),
 }
 SEARCH_HELP = (
     "With N and M it is about the turns from N on and before M, with N alone about the machine "
@@ -117,7 +109,7 @@ class Prompt(Interpreter):
         if not bare or line.startswith("#"):
             return False
         word = sessions.first_word(bare)
-        name = word.rstrip("!")
+        name = word.rstrip("!") or word
         self.explorer.depth = 0
         self.begins(bare)
         try:
@@ -148,8 +140,9 @@ class Prompt(Interpreter):
                 lines = self.lines_and_displays(line)
                 self.show(self.pager.pages(lines) if name in HELP and self.is_paged else lines)
         except Ended as ended:
-            self.end(ended.is_dropped)
-            return True
+            is_ended = self.end(ended.is_dropped)
+            self.is_stopped = not is_ended
+            return is_ended
         return False
 
     def begins(self, line: str) -> None:
@@ -201,18 +194,25 @@ class Prompt(Interpreter):
             self.show([f"{fault}; edits are in memory alone"])
         self.told_fault = fault
 
-    def end(self, is_dropped: bool = False) -> None:
-        """The journal stays if it has edits that weren't saved."""
-        machine = self.explorer.machine
-        if machine.file is None:
-            return
+    def end(self, is_dropped: bool = False) -> bool:
+        """Whether explore may end. The journal stays if it has edits that weren't saved; if it
+        can't be written, edits aren't dropped unasked."""
+        machine, file = self.explorer.machine, self.explorer.machine.file
+        if file is None:
+            return True
         count = sum(len(it.edits) for it in self.explorer.steps.done)
         if is_dropped or not count or machine.journal == self.explorer.saved:
-            machine.file.remove()
-        elif machine.file.place:
-            place = "" if machine.file.is_own else f" {shlex.quote(str(machine.file.place))}"
-            edits = counted(count, "edit")
-            self.show([f"the past isn't saved: ./explore --resume{place} takes up {edits}"])
+            file.remove()
+            return True
+        file.add(machine.journal, 0)  # what could be written by now
+        edits = counted(count, "edit")
+        if file.fault:
+            said = "save FILE keeps the past, quit! drops it"
+            self.show([f"{edits} not saved, and {file.fault}: {said}"])
+            return False
+        place = "" if file.is_own else f" {shlex.quote(str(file.place))}"
+        self.show([f"the past isn't saved: ./explore --resume{place} takes up {edits}"])
+        return True
 
     # Completion
 
@@ -259,8 +259,9 @@ class Prompt(Interpreter):
         if word in HELP:
             yield from self.help_lines(rest)
         elif is_own(word, rest) or self.is_instruction(word, rest):
-            OUTPUT.command, OUTPUT.overwrites = word.rstrip("!"), word[-1] == "!"
-            yield from COMMANDS[OUTPUT.command].lines(self.explorer, rest)
+            name = word.rstrip("!")
+            OUTPUT.way, OUTPUT.overwrites = f"{name}!", word != name
+            yield from COMMANDS[name].lines(self.explorer, rest)
         elif not is_of_language(word) and sentence(word, rest):
             raise ExploreError(sentence(word, rest))
         else:
@@ -268,16 +269,23 @@ class Prompt(Interpreter):
 
     def lead_on(self, word: str, rest: str) -> None:
         """An error that names a line, if this one has the form of gdb or SIMH, and none here."""
-        name = word.rstrip("!")
-        form = COMMANDS[name].pattern if is_own(word, rest) else None
+        form = COMMANDS[word.rstrip("!")].pattern if is_own(word, rest) else None
         has_form = form is not None and form.fullmatch(rest.strip(BLANKS)) is not None
-        is_ours = has_form and not names_register(self.explorer, rest) or is_of_language(word)
+        if is_of_language(word) or has_form and "$" not in rest and word not in NAMING:
+            return
+        from .habits import led_on, names_register  # which few lines need
+
+        is_ours = has_form and not names_register(self.explorer, word, rest)
         led = "" if is_ours else led_on(self.explorer, word, rest)
         if led:
             raise ExploreError(led)
 
     def is_instruction(self, word: str, rest: str) -> bool:
-        return word == "core" and is_instruction(rest, self.explorer.symbols)
+        if word != "core":
+            return False
+        from .patching import is_instruction  # which reads the assembler
+
+        return is_instruction(rest, self.explorer.symbols)
 
     def pass_on(self, line: str) -> Iterator[str]:
         machine = self.explorer.machine
@@ -408,8 +416,7 @@ def read_at_terminal(prompt: Prompt) -> None:
                 typed = typed_line(prompt.explorer.prompt)
         except EOFError:
             put("")
-            prompt.end()
-            break
+            is_last = prompt.end()
         except KeyboardInterrupt:
             put("^C")
         else:
@@ -428,3 +435,6 @@ def read_lines(prompt: Prompt) -> None:
         if text.strip(BLANKS):
             put(shown) if prompt.echo else LINES.note(shown)
         is_last = not line or prompt.onecmd(text)
+    file = prompt.explorer.machine.file
+    if file is not None and file.fault and not line:
+        prompt.end()

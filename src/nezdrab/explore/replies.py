@@ -32,12 +32,25 @@ def named_words(fields: list[str]) -> dict[str, int]:
     return {name: int(word, 8) for name, word in zip(fields[::2], fields[1::2])}
 
 
+def hash_of(it: object) -> int:
+    """The hash of what has tables and lists in it, which have none. Nobody changes them."""
+    fields = (
+        frozenset(part.items()) if isinstance(part, dict)
+        else tuple(part) if isinstance(part, list)
+        else part
+        for part in vars(it).values()
+    )
+    return hash(tuple(fields))
+
+
 @dataclass(frozen=True)
 class Registers:
     """The reply of `regs`."""
 
     words: dict[str, int]
     state: str
+
+    __hash__ = hash_of
 
     @classmethod
     def of(cls, reply: str) -> "Registers":
@@ -136,6 +149,8 @@ class Devices:
 
     words: dict[str, int]
 
+    __hash__ = hash_of
+
     @classmethod
     def of(cls, reply: str) -> "Devices":
         return cls(named_words(reply.split()[1:]))
@@ -191,6 +206,8 @@ class Pages:
     sr2: int
     descriptors: dict[Mode, tuple[int, ...]]
     addresses: dict[Mode, tuple[int, ...]]
+
+    __hash__ = hash_of
 
     @classmethod
     def of(cls, reply: str) -> "Pages":
@@ -317,6 +334,8 @@ class TurnAccesses:
     punched: bytes
     done: Optional[str]
     cycles: list[BusCycle]
+
+    __hash__ = hash_of
 
     @classmethod
     def of(cls, lines: list[str]) -> "TurnAccesses":

@@ -1,7 +1,7 @@
 """The turn in which something happens: `until`, `next`, `first`, `where`."""
 from typing import Iterator, Optional
 
-from .commands import Arguments, Explorer, command, searched_range
+from .commands import Arguments, Explorer, command, range_ahead, searched_range
 from .disk_words import DiskWord, change_lines, functions_in_words, last_change
 from .errors import ExploreError
 from .in_words import span
@@ -57,11 +57,11 @@ def until(explorer: Explorer, arguments: Arguments) -> Iterator[str]:
     """Finds the first of the turns N to M that runs an instruction with PC X, an address as
     the program has it; that is an interrupt by vector V; that begins in user or kernel mode; before
     which R, one of R0 to R5, KSP, USP and PS, is W (or !=, <, > W); or that prints the last byte of
-    STRING, which is written as in `type`. Without `from` N is 0. Without `to` M is a million turns
-    past the greatest turn that was asked so far. It is exact, and quick. The turn is then the
-    current turn: `show`, `step`, `see` and `list` go on there. `first N M where CONDITION` takes
-    more conditions at once."""
-    turns, what = searched_range(explorer, arguments), arguments.text("what")
+    STRING, which is written as in `type`. Without `from` N is the turn after the current one, or 0
+    at turn 0. Without `to` M is a million turns past the greatest turn that was asked so far. It is
+    exact, and quick. The turn is then the current turn: `show`, `step`, `see`, `list` and the next
+    `until` go on there. `first N M where CONDITION` takes more conditions at once."""
+    turns, what = range_ahead(explorer, arguments), arguments.text("what")
     if arguments.optional("text") is not None:
         yield until_text(explorer, arguments.text("text"), what, turns)
         return
@@ -121,10 +121,10 @@ def disk_word_of(explorer: Explorer, arguments: Arguments) -> DiskWord:
 )
 def next_command(explorer: Explorer, arguments: Arguments) -> Iterator[str]:
     """Finds the first of the turns N to M that writes the core word at A, and who wrote it,
-    also if the word stays the same; or that changes word I of a drive. Without `from` N is 0.
-    Without `to` M is a million turns past the greatest turn that was asked so far. It is exact.
-    An image and a patch are no writes."""
-    turns, address = searched_range(explorer, arguments), arguments.octal("address")
+    also if the word stays the same; or that changes word I of a drive. Without `from` N is the turn
+    after the current one, or 0 at turn 0. Without `to` M is a million turns past the greatest turn
+    that was asked so far. It is exact. An image and a patch are no writes."""
+    turns, address = range_ahead(explorer, arguments), arguments.octal("address")
     if arguments.optional("kind"):
         yield from next_on_disk(explorer, disk_word_of(explorer, arguments), turns)
         return

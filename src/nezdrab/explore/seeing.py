@@ -31,9 +31,9 @@ def see(explorer: Explorer, arguments: Arguments) -> Iterator[str]:
     With `operands` each operand of an instruction has a line below it, also the word that a call
     pushes or a return pops: its mode and its addresses, as above; how it is written; what the
     instruction finds there; and after `then` what is there before the next turn, if the instruction
-    writes it. Of SP the mode says which one it is. An operand that is a byte has three digits. A
-    device's register has its name alone, since a read of it may change it. An instruction that
-    can't reach an operand says why, and has no further line."""
+    writes it. Of SP the mode says which one it is. A byte of core has three digits, and a register
+    has all six, of a byte too. A device's register has its name alone, since a read of it may
+    change it. An instruction that can't reach an operand says why, and has no further line."""
     end = arguments.decimal("turn", explorer.turn)
     count = min(end, arguments.decimal("count", SHOWN_AT_ONCE))
     if count == 0:

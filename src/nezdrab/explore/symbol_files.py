@@ -166,8 +166,8 @@ def is_listing(lines: Sequence[str]) -> bool:
 
 
 def of_listing(lines: Sequence[str]) -> SymbolFile:
-    """The table has each symbol; labels on the left tell which name a place. Without a table the
-    left columns have them all."""
+    """The table has each symbol; labels on the left tell which name a place, and in which order.
+    Without a table the left columns have them all."""
     labels: dict[str, Symbol] = {}
     table: dict[str, Symbol] = {}
     waiting: list[str] = []
@@ -188,10 +188,11 @@ def of_listing(lines: Sequence[str]) -> SymbolFile:
         into = table if in_table else labels
         into.update((it.name, it) for it in found)
         skipped += not found and not waiting
-    places = {name.upper() for name, it in labels.items() if not it.is_constant}
+    places = [name.upper() for name, it in labels.items() if not it.is_constant]
+    order = {name: at for at, name in enumerate(places, 1)}
     named = [
-        replace(it, is_constant=it.is_constant and it.name.upper() not in places)
-        for it in table.values()
+        replace(it, is_constant=it.is_constant and it.name.upper() not in order)
+        for it in sorted(table.values(), key=lambda it: order.get(it.name.upper(), 0))
     ]
     return SymbolFile("a MACRO-11 listing", named or list(labels.values()), skipped)
 

@@ -2,7 +2,7 @@
 import bisect
 import re
 from dataclasses import dataclass, field
-from typing import Iterable, Optional, Sequence
+from typing import TYPE_CHECKING, Iterable, Optional, Sequence
 
 from .. import sessions
 from ..sessions import BEFORE_ADDRESS, words_of
@@ -11,7 +11,9 @@ from .errors import ExploreError
 from .language import FADING, FORMS, form_of
 from .machine import Machine
 from .replies import Mode
-from .symbol_files import Symbol
+
+if TYPE_CHECKING:
+    from .symbol_files import Symbol
 
 FARTHEST = 0o10000
 OFFSETS = r"([+-][0-7]{1,10})*"
@@ -32,14 +34,15 @@ class Symbols:
     numbers: dict[Mode, dict[str, int]] = field(
         default_factory=lambda: {Mode.KERNEL: {}, Mode.USER: {}}
     )
-    taken: dict[Mode, list[Symbol]] = field(
+    taken: "dict[Mode, list[Symbol]]" = field(
         default_factory=lambda: {Mode.KERNEL: [], Mode.USER: []}
     )
 
-    def take(self, found: Iterable[Symbol], modes: Sequence[Mode]) -> None:
+    def take(self, found: "Iterable[Symbol]", modes: Sequence[Mode]) -> None:
         """Takes these in place of those there were. A constant has a number, and is the name of no
-        address."""
-        symbols = sorted(found, key=lambda it: (it.value, it.name))
+        address. Of two names of an address the last one is shown: in a listing it is that of what
+        begins there, and the other may be the end of what was before."""
+        symbols = sorted(found, key=lambda it: it.value)
         places = [it for it in symbols if not it.is_constant]
         for mode in modes:
             self.names = {key: name for key, name in self.names.items() if key[0] != mode}
@@ -48,7 +51,7 @@ class Symbols:
             self.numbers[mode] = {it.name: it.value for it in symbols}
             self.taken[mode] = symbols
 
-    def add(self, found: Iterable[Symbol], modes: Sequence[Mode]) -> None:
+    def add(self, found: "Iterable[Symbol]", modes: Sequence[Mode]) -> None:
         """Takes these beside those there are. A name that was there before gets the new value."""
         added = list(found)
         names = {it.name for it in added}

@@ -29,7 +29,7 @@ TOPICS = {
     ASKING: Topic(
         "what a turn did, what the machine was",
         ("show", "see", "accesses", "calls", "screen", "events", "compare", "follow", "lost")
-        + ("profile",),
+        + ("why", "profile"),
         "Lines of the session language ask too: regs, mem, dsk, text, last, trail, devices, pages. "
         "See help session.",
     ),

@@ -19,7 +19,8 @@ from .origins import Graph, Kind, Origin, Origins
 from .steps import Step, Steps
 from .why_graph import drawn
 
-ASKED = ("A", "disk [D] I", "R", "text [C]")
+ASKED = ("[core] A", "disk [D] I", "R", "text [C]")
+ELSEWHERE = "a write that went to another address, and might have come here, isn't found"
 MOST_STEPS, MOST_CHANGES, COUNTED_CHANGES = 2_000, 16, 64
 
 
@@ -135,8 +136,8 @@ def change_lines(account: Account, what: Asked, turn: int) -> Iterator[str]:
 @command(
     "  or  ".join(f"why {it} [at N] [steps C] [places] [graph FILE]" for it in ASKED),
     r"((?P<register>[Rr][0-5]|[KUku]?[Ss][Pp]|[Pp][Ss]|[NZVC])|(?P<text>text)( <count:decimal>)?"
-    r"|(?P<disk>disk) ((?P<drive>[0-7]) )?<index:octal>|<address:address>)( at <turn:decimal>)?"
-    r"( steps <steps:decimal>)?(?P<places> places)?( graph <file:file>)?",
+    r"|(?P<disk>disk) ((?P<drive>[0-7]) )?<index:octal>|(core )?<address:address>)"
+    r"( at <turn:decimal>)?( steps <steps:decimal>)?(?P<places> places)?( graph <file:file>)?",
     "what a word, a register or the end of the text is made of",
 )
 def why(explorer: Explorer, arguments: Arguments) -> Iterator[str]:
@@ -144,11 +145,11 @@ def why(explorer: Explorer, arguments: Arguments) -> Iterator[str]:
     the codes N, Z, V and C), or the last C bytes of the text were made of before turn N: without
     `at` the current turn. Each line has a value and `<-` the operation that made it. Below it
     stands what that was made of, and the part with the most behind it goes on at the same indent.
-    Copies have no line, and many operations on one value have one. At the end stand the events that
-    the value is made of. 'Made of' is of data: what a branch decided isn't followed, and at which
-    address a value was only with `places`. After 2000 steps, or C of `steps`, the rest isn't
-    followed, nor is a register further back than 20000 turns: both are said. `graph` writes the
-    steps as an SVG, and `why!` overwrites one."""
+    Copies have no line, and many operations on one value have one, with what it was before them. At
+    the end stand the events that the value is made of. 'Made of' is of data: what a branch decided
+    isn't followed, and at which address a value was only with `places`. After 2000 steps, or C of
+    `steps`, the rest isn't followed, nor is a register further back than 20000 turns: both are
+    said. `graph` writes the steps as an SVG, and `why!` overwrites one."""
     machine, turn = explorer.machine, arguments.decimal("turn", explorer.turn)
     what, most = asked(explorer, arguments, turn), arguments.decimal("steps", MOST_STEPS)
     if not most:
@@ -163,6 +164,7 @@ def why(explorer: Explorer, arguments: Arguments) -> Iterator[str]:
     add_roots(account, begins)
     yield from account.written()
     yield from end_lines(account, graph, turn, most)
+    yield from [ELSEWHERE] if origins.places else []
     if what.cells and is_of_drive(what.cells[0]) and graph.is_whole:
         yield from change_lines(account, what, turn)
     if arguments.optional("file"):

@@ -4,7 +4,7 @@ import html
 from dataclasses import dataclass, field
 from typing import Iterator, Optional
 
-from .account import Account
+from .account import NOT_FOLLOWED, Account
 from .origins import Kind
 from .steps import Source, Step, Steps
 
@@ -93,7 +93,7 @@ def label(account: Account, row: Row) -> str:
         for it in row.sources
     )
     made = "; ".join(parts)
-    note = " .. not followed" if step in account.steps.left else ""
+    note = NOT_FOLLOWED if step in account.steps.left else ""
     return f"{account.what(step)}{f' of {made}' if made else ''}{note}"
 
 

@@ -36,6 +36,7 @@ class Case(unittest.TestCase):
         folder = tempfile.TemporaryDirectory()
         self.addCleanup(folder.cleanup)
         self.folder = Path(folder.name)
+        self.state = str(self.folder / "state")
         os.symlink(ROOT / "examples", self.folder / "examples")
 
     def command(self, *words: str) -> list[str]:
@@ -45,7 +46,7 @@ class Case(unittest.TestCase):
 
     def environment(self) -> dict[str, str]:
         """That of the tests, in which explore's Python has its own buffers, as it usually has."""
-        mine = {"XDG_STATE_HOME": str(self.folder / "state"), "TERM": "dumb"}
+        mine = {"XDG_STATE_HOME": self.state, "TERM": "dumb"}
         return {**{it: os.environ[it] for it in os.environ if it != "PYTHONUNBUFFERED"}, **mine}
 
     def explore(self, lines: str, *words: str, status: Optional[int] = 0) -> str:

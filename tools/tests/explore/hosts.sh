@@ -30,7 +30,7 @@ for host in one two; do
     two=$!
 done
 for host in one two; do
-    for _ in {1..50}; do
+    for _ in {1..600}; do
         ssh -F "$folder/hosts" "$host" true 2>"$folder/ssh.log" </dev/null && break
         sleep 0.1
     done

@@ -8,6 +8,8 @@ import subprocess
 import time
 from typing import Callable, Optional
 
+from tests import processes
+
 from .common import SECONDS, Case
 
 
@@ -81,7 +83,8 @@ class AtTerminal(Case):
             if select.select([self.ours], [], [], 0.3)[0]:
                 self.read()
             elif b"explore> " in self.seen.rpartition(b"\n")[2]:
-                break
+                if processes.all_wait(self.child.pid):
+                    break
             self.assertLess(time.monotonic(), limit, f"no prompt comes after {self.seen!r}")
         self.seen = b"explore> "
 

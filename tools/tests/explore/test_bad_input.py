@@ -79,7 +79,7 @@ class BadInput(Case):
 
         thread = threading.Thread(target=remove)
         thread.start()
-        written = self.explore("core 2000 5\nsymbols pipe\nundo\nregs 0\n", "--disk", "disk")
+        written = self.explore("disk 5 5\nsymbols pipe\nundo\nregs 0\n", "--disk", "disk")
         thread.join(SECONDS)
         said = f"regs: the program ended with status 3: search: input or output; --disk {disk}: No "
         self.assertIn(said, written)

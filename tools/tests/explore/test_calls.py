@@ -6,7 +6,7 @@ from typing import Iterator, Optional, Sequence
 
 from nezdrab.explore.commands import COMMANDS, Explorer
 from nezdrab.explore.errors import ExploreError
-from nezdrab.explore.levels import LOADED, NOT_CHECKED, Stacks, pointer
+from nezdrab.explore.levels import LOADED, NOT_CHECKED, Return, Stacks, call_in, pointer
 from nezdrab.explore.listing import seen
 from nezdrab.explore.machine import SHORT_SENT_AHEAD
 from nezdrab.explore.replies import Mode, Registers
@@ -199,6 +199,50 @@ class Calls(OnMachine):
                 self.assertEqual((level.call.turn, level.doubt), (16, doubt), turn)
         self.assertEqual(list(Stacks(explorer.machine).levels(32)), [])
         self.assertIn("(believed: SP was loaded since)", self.calls(explorer, "20")[-1])
+
+    def two_tasks(self) -> Explorer:
+        """Two tasks call the same routines, by JSR PC and JSR R5, and the clock exchanges their
+        stacks, of which the second is above the first."""
+        words = "12706 600 12737 100 177546 4767 2 775 5202 4767 2 207 5203 4567 2 207 205"
+        exchange = "10546 10637 3000 13706 3002 13737 3000 3002 12605 2"
+        edits = [*core(words), *core(exchange, 0o1100), *core("0 1012 0", 0o672)]
+        vector = ["core 100 1100", "core 102 300", "core 3002 672", "delay clock 23"]
+        return self.explorer("", [*edits, *vector])
+
+    def test_a_return_in_the_same_task(self) -> None:
+        explorer = self.two_tasks()
+        machine, turns = explorer.machine, range(1_000)
+        shadow = Shadow(explorer, turns)
+        registers, loads = shadow.registers, 0
+        for turn in sorted(it for it in shadow.calls if it < 800):
+            before, call = registers[turn], call_in(machine, turn)
+            assert call is not None
+            pc, sp = before.pc + 4 * (call.kind == "JSR"), before.words["KSP"]
+            place = {it: (registers[it].pc, registers[it].words["KSP"]) for it in turns}
+            wanted = next(it for it in turns[turn + 1 :] if place[it] == (pc, sp))
+            self.assertEqual(self.goes_to(explorer, turn, "over to 999"), wanted, turn)
+            explorer.turn = turn + 1
+            list(COMMANDS["finish"].lines(explorer, "to 999"))
+            self.assertEqual(explorer.turn, wanted, turn)
+            parts = (turns[it : it + 7] for it in range(turn + 1, 999, 7))
+            found = filter(None, map(Return(machine, call).first, parts))
+            self.assertEqual(next(found), wanted, turn)
+            loads += shadow.returned(turn, turns[turn + 1 :]) != wanted
+        self.assertGreater(loads, 10)
+
+    def test_a_routine_that_is_left_by_a_load(self) -> None:
+        """JSR PC,1010; there MOV #1000,SP; JSR PC,1020; there a branch to itself."""
+        explorer = self.explorer("", core("12706 1000 4767 0 12706 1000 4767 0 777"))
+        explorer.turn = 1
+        lines = list(COMMANDS["over"].lines(explorer, "to 90"))
+        said = "KSP was loaded in turn 2, and the routine was left by that"
+        self.assertEqual(lines[0], f"{said}: PC isn't its return address")
+        self.assertEqual(explorer.turn, 3)
+        explorer = self.explorer("", core("12706 1000 4767 0 12706 1000 777"))
+        explorer.turn = 1
+        (line,) = COMMANDS["over"].lines(explorer, "to 90")
+        end = "; KSP was loaded in turn 2, as when stacks are switched"
+        self.assertEqual(line, f"the call in turn 1 doesn't return in the turns 2 to 90{end}")
 
     def test_what_is_not_checked(self) -> None:
         """JSR PC,1010, which goes on there for ever."""

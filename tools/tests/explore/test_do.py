@@ -179,7 +179,8 @@ class Displays(Case):
     """`display` and `undisplay`."""
 
     def test_it_is_shown_when_the_turn_moves(self) -> None:
-        lines = "display mem $turn 1000 1\nshow 3\nstep\nregs 5\nshow 4\nuntil PC 1004\nback 9\n"
+        lines = "display mem $turn 1000 1\nshow 3\nstep\nregs 5\nshow 4\n"
+        lines += "until PC 1004 from 0\nback 9\n"
         written = self.explore(lines, FIRST)
         # at first, then for turns 3, 4 and 1
         self.assertEqual(written.count("mem 012700"), 4)

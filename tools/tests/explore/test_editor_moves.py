@@ -159,6 +159,27 @@ class Going(OfEditors):
         self.assertIn("no breakpoint", editor.type("breakpoints"))
         editor.ask("disconnect")
 
+    def test_what_no_breakpoint_does(self) -> None:
+        """It isn't verified, says why, and stops nothing."""
+        _, launch = self.hanoi()
+        editor = self.editor()
+        editor.enter(**launch, end=500)
+        reference, data = {"instructionReference": "0x200"}, {"dataId": f"core {ROUNDS:o}"}
+        for request, point in (
+            ("setFunctionBreakpoints", {"name": "1254"}),
+            ("setInstructionBreakpoints", reference),
+            ("setDataBreakpoints", data),
+        ):
+            for field, why in (("hitCondition", "no hits are counted"), ("logMessage", "logs")):
+                (shown,) = editor.ask(request, breakpoints=[{**point, field: "5"}])["breakpoints"]
+                self.assertFalse(shown["verified"])
+                self.assertTrue(shown["message"].startswith(f"{field}: "))
+                self.assertIn(why, shown["message"])
+            (shown,) = editor.ask(request, breakpoints=[{**point, field: ""}])["breakpoints"]
+            self.assertTrue(shown["verified"])
+            editor.ask(request, breakpoints=[])
+        editor.ask("disconnect")
+
     def test_pause_is_heard_while_reads_are_looked_for(self) -> None:
         _, launch = self.hanoi()
         editor = self.editor()

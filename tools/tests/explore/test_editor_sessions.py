@@ -2,9 +2,6 @@
 import json
 import os
 import random
-import re
-import signal
-import socket
 import subprocess
 import time
 import unittest
@@ -14,7 +11,7 @@ from nezdrab.explore.dap.adapter import WHILE_RUNNING
 from nezdrab.explore.dap.table import REQUESTS
 
 from .common import ROOT, SECONDS
-from .editor import SCHEMA, Editor, Object, WithEditors
+from .editor import SCHEMA, Editor, Object
 from .test_calls import core
 from .test_editors import OF_LEDGER, OfEditors
 
@@ -177,6 +174,14 @@ class Edits(OfEditors):
         self.assertEqual(shown, {"value": "000007"})
         editor.until("invalidated")
         self.assertEqual(editor.type("mem 0 0 1"), "mem 000007")
+        number = {it["name"]: it["variablesReference"] for it in self.scopes(editor)}
+        for scope, name, why in (
+            ("Registers", "R0", "R0 before turn 0 is what power-up makes it"),
+            ("Registers", "PC", "what power-up makes it: `start` of launch is another"),
+            ("Devices", "SWR", "what power-up makes it: at 0 switches 7 sets it in turn 0"),
+        ):
+            asked = {"variablesReference": number[scope], "name": name, "value": "7"}
+            self.assertTrue(editor.refused("setVariable", **asked).endswith(why))
         self.assertIn("output", {it["event"] for it in editor.events})
         editor.goes_by("show 30")
         number = {it["name"]: it["variablesReference"] for it in self.scopes(editor)}
@@ -379,69 +384,6 @@ class Broken(OfEditors):
                 self.assertNotIn("a fault of explore", reply.get("message", ""), (name, given))
         number = editor.request("disconnect")
         self.assertTrue(editor.reply_to(number)["success"])
-
-
-class Ports(WithEditors):
-    def server(self, *words: str) -> tuple["subprocess.Popen[bytes]", int]:
-        process = self.adapter("--port", "0", *words)
-        assert process.stdout
-        line = process.stdout.readline().decode()
-        found = re.fullmatch(r"127\.0\.0\.1:([0-9]+) waits for editors; Ctrl-C ends\n", line)
-        assert found is not None, line
-        return process, int(found[1])
-
-    def editor_at(self, port: int) -> tuple[Editor, socket.socket]:
-        client = socket.create_connection(("127.0.0.1", port), timeout=SECONDS)
-        self.addCleanup(client.close)
-        return Editor(self, client.fileno(), client.fileno()), client
-
-    def test_editors_at_a_port(self) -> None:
-        """Two at once, each with a machine of its own; one vanishes, and another comes."""
-        process, port = self.server()
-        first, gone = self.editor_at(port)
-        second, _ = self.editor_at(port)
-        first.enter(**{**OF_LEDGER, "turn": 100})
-        second.enter(**{**OF_LEDGER, "turn": 200})
-        self.assertEqual(first.go("stepIn"), (101, "step"))
-        self.assertEqual(second.go("stepBack"), (199, "step"))
-        gone.close()
-        third, _ = self.editor_at(port)
-        third.enter(**OF_LEDGER)
-        third.ask("disconnect")
-        third.until_the_end()
-        self.assertEqual(second.go("stepBack"), (198, "step"))
-        self.ended(process)
-        second.until_the_end()
-
-    def ended(
-        self, process: "subprocess.Popen[bytes]", status: int = 130, said: bytes = STOPPED
-    ) -> None:
-        """Ctrl-C ends a server, and what it started."""
-        if process.poll() is None:
-            process.send_signal(signal.SIGINT)
-        super().ended(process, status, said)
-
-    def test_ports_that_are_none(self) -> None:
-        taken = socket.socket()
-        self.addCleanup(taken.close)
-        taken.bind(("127.0.0.1", 0))
-        taken.listen()
-        number = taken.getsockname()[1]
-        program = self.command()[0]
-        for port, why in (
-            (f"{number}", "Address already in use"),
-            ("65536", "N is 0 to 65535"),
-            ("x", "N is 0 to 65535"),
-        ):
-            ended = subprocess.run(
-                [program, "dap", "--port", port],
-                env=self.environment(),
-                stdin=subprocess.DEVNULL,
-                stderr=subprocess.PIPE,
-                timeout=SECONDS,
-            )
-            self.assertEqual(ended.returncode, 1)
-            self.assertEqual(ended.stderr.decode(), f"explore: --port {port}: {why}\n")
 
 
 class Files(OfEditors):

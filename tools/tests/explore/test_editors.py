@@ -182,6 +182,11 @@ class Shown(OfEditors):
                 f"{line[:6]}  {line[30:58].rstrip()}" for line in listed[first : first + count]
             ]
             self.assertEqual(lines, wanted_lines)
+        asked = {"memoryReference": "0x200", "instructionCount": -5}
+        why = "instructionCount is -5, less than 0"
+        self.assertEqual(editor.refused("disassemble", **asked), why)
+        asked["instructionCount"] = 10_001
+        self.assertIn("10000 instructions at most", editor.refused("disassemble", **asked))
         nothing = editor.ask("disassemble", memoryReference="0x1004000", instructionCount=2)
         self.assertEqual({it["presentationHint"] for it in nothing["instructions"]}, {"invalid"})
         editor.ask("disconnect")

@@ -1,21 +1,30 @@
 """Words of other debuggers: each leads on to lines that can be typed."""
 import re
+from typing import Iterable
 
 from nezdrab.explore import prompt  # which adds the commands
 from nezdrab.explore.commands import COMMANDS
 from nezdrab.explore.errors import ExploreError
 from nezdrab.explore.foreign import FOREIGN, sentence
+from nezdrab.explore.habits import HABITS
 from nezdrab.explore.language import FORMS, LISTS, SEARCHES
 
-from .common import Case
+from .common import ROOT, Case
 from .machines import OnMachine
+from .test_calls import core
 
 # The first lines of somebody from gdb, and of somebody from SIMH, with the line that is named.
 FIRST_LINES = (
     ("break *0x200", "break 1000"),
     ("b 1000", "break 1000"),
     ("b 1000 if R0 > 5", "break 1000 if R0 > 5"),
+    ("b 1000 if R0==5", "break 1000 if R0 = 5"),
+    ("b 1000 if $r0==0x10 && (COUNT&7)==3", "break 1000 if R0 = 20 and core COUNT & 7 = 3"),
+    ("b 1000 if COUNT > 3", "break 1000 if core COUNT > 3"),
+    ("b 1000 if i > 3", "break 1000"),
+    ("b 1000 if R0 >= 3", "break 1000"),
     ("tbreak *0x200", "break 1000"),
+    ("tb COUNT if R0 > 5", "break COUNT if R0 > 5"),
     ("c", "continue"),
     ("s", "step"),
     ("s 3", "step 3"),
@@ -25,14 +34,30 @@ FIRST_LINES = (
     ("info registers", "show"),
     ("info break", "breakpoints"),
     ("info frame", "calls"),
-    ("x/20i $pc", "dump kernel 1000 20 instructions"),
-    ("x/4xw $sp", "dump kernel 0 4"),
+    ("i f", "calls"),
+    ("info symbol COUNT", "list COUNT 1"),
+    ("info line", "list 1000 1"),
+    ("info functions", "profile 5 9"),
+    ("info variables", "symbols FILE"),
+    ("info threads", "show"),
+    ("x/20i $pc", "dump kernel 1020 20 instructions"),
+    ("x/4xw $sp", "dump kernel 676 4"),
     ("x/2i 0x200", "dump kernel 1000 2 instructions"),
     ("p $r0", "show"),
     ("display/i $pc", "display list"),
+    ("display/x $r0", "display show"),
+    ("display/x COUNT", "display dump COUNT 1"),
+    ("display/x", "display list"),
+    ("display $r0", "display show"),
+    ("display r0", "display show"),
     ("disas 0x200", "list kernel 1000 16"),
     ("watch *0x400", "watch 2000"),
-    ("watch $r1", "until R1 = 0"),
+    ("watch $r1", "until R1 != 0"),
+    ("watch r0", "until R0 != 0"),
+    ("watch $sp", "until KSP != 676"),
+    ("watch $pc", "step"),
+    ("rwatch *1000", "rwatch 1000"),
+    ("awatch *0x200", "rwatch 1000"),
     ("until *0x200", "until PC 1000"),
     ("frame", "calls"),
     ("up", "calls"),
@@ -46,20 +71,37 @@ FIRST_LINES = (
     ("delete breakpoints 1", "delete 1"),
     ("e 1000", "dump 1000 1"),
     ("E 1000-1020", "dump 1000 9"),
+    ("e 1000/10", "dump 1000 4"),
+    ("e psw", "show"),
+    ("e rkcs", "devices 3"),
+    ("e sr", "devices 3"),
     ("ex -m 1000-1020", "list 1000 9"),
     ("e pc", "show"),
     ("e state", "show"),
     ("d 2000 5", "core 2000 5"),
     ("dep -m 2000 MOV R0,R1", "core 2000 MOV R0,R1"),
     ("dep pc 1000", "until PC 1000"),
+    ("d sr 5", "at 3 switches 5"),
     ("g 1000", "until PC 1000"),
     ("br 1000", "break 1000"),
     ("nobr", "breakpoints"),
-    ("sh dev", "devices 0"),
+    ("sh dev", "devices 3"),
     ("show cpu", "setup"),
+    ("show cpu history", "see 3 20"),
+    ("sh cpu hi", "see 3 20"),
     ("set cpu 40", "setup"),
-    ("set cpu history=50", "see 20 20"),
-    ("show history=5", "see 5 5"),
+    ("set cpu history=50", "see 3 20"),
+    ("show history=5", "see 3 5"),
+    ("history 5", "see 3 5"),
+    ("goto 500", "show 500"),
+    ("goto COUNT", "until PC COUNT"),
+    ("500", "show 500"),
+    ("commands 1", "display show"),
+    ("shell ls", "log FILE"),
+    ("!ls", "log FILE"),
+    ("record", "back"),
+    ("echo hello", "# X"),
+    ("apropos core", "help all"),
     ("ev 12700", "list 1000 1"),
     ('exp "X"', 'expect "X"'),
     ('send "Y"', 'type "Y"'),
@@ -69,7 +111,7 @@ EXAMINED = ("x/20i 1000", "x/20i $pc", "x/8o 1000", "x/8b 1000", "x/5c", "x/0", 
 # What stands for the letters when a line is typed.
 TYPED = {
     **{"A": "1000", "C": "3", "N": "5", "M": "9", "W": "777", "E": "1", "L": "printer"},
-    **{"FILE": "it", "TEXT": "x", "STRING": "x", "WORD": "see"},
+    **{"TEXT": "X", "STRING": "X", "WORD": "see", "NAME": "it", "LINE": "show"},
 }
 
 
@@ -84,22 +126,11 @@ class Words(Case):
         return {**{word: sentence(word) for word in FOREIGN}, **examined}
 
     def test_each_leads_to_commands_that_exist(self) -> None:
-        there = {*COMMANDS, *FORMS, *SEARCHES, *LISTS, *prompt.OWN_HELP}
+        there = {*COMMANDS, *FORMS, *SEARCHES, *LISTS, *prompt.OWN_HELP, "#"}
         for word, said in self.sentences().items():
             self.assertTrue(lines_of(said), word)
             for line in lines_of(said):
                 self.assertIn(line.split()[0], there, word)
-
-    def test_each_line_that_they_name_can_be_typed(self) -> None:
-        """None has another form than the command's. A letter stands for what it may be, and the
-        machine runs BR . at 1000, so that each search ends soon."""
-        named = sorted({line for said in self.sentences().values() for line in lines_of(said)})
-        self.assertGreater(len(named), 20)
-        typed = (" ".join(TYPED.get(it, it) for it in line.split()) for line in named)
-        lines = ["core 1000 777", "at 20 tick", *typed]
-        written = self.explore("".join(f"{it}\n" for it in lines), "--echo")
-        self.assertEqual(written.count("explore> "), len(lines))
-        self.assertNotRegex(written, "form is|forms are|refused 10")
 
     def test_each_is_known_at_the_prompt(self) -> None:
         said = {it: text for it, text in self.sentences().items() if it not in COMMANDS}
@@ -146,31 +177,61 @@ class Words(Case):
         self.assertEqual(first["x/0"], "dump A 1")
 
 
-class FirstLines(OnMachine):
-    """The machine prints X, and runs BR . at 1006 then."""
+# MOV #700,SP; JSR PC,1012, again and again; there MOV #130,@#TPB; RTS PC
+PRINTING = "12706 700 4767 2 775 12737 130 177566 207"
+
+
+class Leads(OnMachine):
+    """The machine stands before turn 3, an RTS. What a letter stands for is named by the user."""
 
     def prompt(self) -> prompt.Prompt:
-        words = ("1000 12737", "1002 130", "1004 177566", "1006 777")
-        made = prompt.Prompt(self.explorer(edits=[f"core {it}" for it in words]))
-        list(made.lines("watch 3000"))
+        self.put("names", "2000 COUNT\n")
+        self.put("lines", "show\n")
+        self.put("it.ini", "d 2000 5\n")
+        made = prompt.Prompt(self.explorer(edits=core(PRINTING)))
+        for line in (f"symbols {self.folder}/names", "at 20 tick", "break 1012", "show 3"):
+            list(made.lines(line))
         return made
 
-    def test_each_names_a_line(self) -> None:
-        """What a letter stands for is named by the user."""
-        made = self.prompt()
-        for line, named in FIRST_LINES:
+    def put(self, name: str, text: str) -> None:
+        (self.folder / name).write_text(text)
+
+    def typed(self, line: str) -> str:
+        """A line with what its letters may stand for: a file is a new one, if it isn't read."""
+        word = line.split()[0]
+        read = {"do": "lines", "import": "it.ini", "symbols": "names"}
+        read["covered"] = str(ROOT / "examples" / "ledger" / "ledger.lst")
+        named = {**TYPED, "INSTRUCTION": "MOV R0,R1", **({"N": "1"} if word == "delete" else {})}
+        words = re.findall(r"\w+|\W", line)
+        path = str(self.folder / read.get(word, "new"))
+        return "".join(path if it == "FILE" else named.get(it, it) for it in words)
+
+    def check_taken(self, lines: Iterable[str]) -> None:
+        """Each is done when it is typed. One that needs a terminal has its form."""
+        for line in sorted({*lines}):
+            made = self.prompt()
+            try:
+                list(made.lines(self.typed(line)))
+            except ExploreError as error:
+                self.assertEqual(line, "console from 0", error)
+                self.assertEqual(str(error), "lines don't come from a terminal here")
+            (self.folder / "new").unlink(missing_ok=True)
+
+    def test_each_line_that_a_word_names_is_taken(self) -> None:
+        said = [*map(sentence, FOREIGN), sentence("500")]
+        said += [sentence(*it.partition(" ")[::2]) for it in EXAMINED]
+        self.check_taken(line for it in said for line in lines_of(it))
+
+    def test_each_line_that_a_first_line_names_is_taken(self) -> None:
+        made, named = self.prompt(), []
+        for line, first in FIRST_LINES:
             with self.assertRaises(ExploreError, msg=line) as raised:
                 list(made.lines(line))
+            named += lines_of(str(raised.exception))
             typed = lines_of(str(raised.exception))[0]
-            typed = re.sub(r"\bINSTRUCTION\b", "MOV R0,R1", re.sub(r"\bA\b", "1000", typed))
-            self.assertEqual(typed, named, line)
+            self.assertEqual(self.typed(typed), self.typed(first), line)
+        self.check_taken(named)
 
-    def test_the_lines_that_they_name_work(self) -> None:
-        for line in sorted({it for _, it in FIRST_LINES} - {"console from 0"}):
-            made = self.prompt()
-            list(made.lines("step"))
-            try:
-                self.assertTrue(list(made.lines(line)), line)
-            except ExploreError as error:
-                wrong = "form is|forms are|refused|there is no (l|c|s)"
-                self.assertNotRegex(str(error), wrong, line)
+    def test_each_habit_has_a_first_line(self) -> None:
+        shown = [HABITS.get(line.split()[0].lower()) for line, _ in FIRST_LINES]
+        self.assertEqual([word for word, habit in HABITS.items() if habit not in shown], [])

@@ -102,7 +102,7 @@ class AtPrompt(AtTerminal):
         self.assertIn("moving: from turn to turn", shown)
         self.wait_for(pager.MORE.encode())
         self.seen = b"explore> " + self.seen
-        self.type("q\n")
+        self.type("q")
         # an arrow brings the line before: answers are none
         self.type("\x1b[A")
         self.wait_for(b"help all")

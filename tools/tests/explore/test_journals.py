@@ -1,14 +1,19 @@
 """Edits that outlast a closed terminal, and edits that are taken back."""
 import os
+import random
+import resource
 import shutil
 import signal
 import subprocess
 from pathlib import Path
+from typing import Sequence
 
 from .common import SECONDS
+from .machines import OnMachine
 from .media import tape, words
 from .terminal import AtTerminal
 
+LARGER = 1 << 20
 PAST = "regs 40\nevents\npatches\n"
 
 
@@ -133,6 +138,63 @@ class Journals(AtTerminal):
             self.assertEqual(self.child.wait(SECONDS), 0)
             self.seen = b""
         self.assertEqual(len(self.journals()), 4)
+
+    def test_edits_that_no_journal_has_are_not_dropped_unasked(self) -> None:
+        fault = b"and the journal can't be written: No such file or directory: save FILE keeps"
+        self.state = "/proc/nope"
+        for keep in (False, True):
+            self.begin("examples/ledger/ledger.session")
+            self.type("at 1000 key 101\n")
+            self.wait_for(b"event 28")
+            for word in ("quit\n", "q\n", "exit\n", "\x04", "\x04"):
+                self.type(word)
+                self.wait_for(b"1 edit not saved, " + fault)
+            self.type("quit\nundo\n")
+            self.wait_for(fault)
+            self.type("undo\n")
+            self.wait_for(b"taken back: at 1000 key 101")
+            self.type("redo\n")
+            self.type("save it\n" if keep else "quit!\n")
+            if keep:
+                self.wait_for(b"lines in it")
+                self.end()
+            self.assertEqual(self.child.wait(SECONDS), 0)
+            self.seen = b""
+        self.assertIn("at 1000 key 101\n", (self.folder / "it").read_text())
+
+    def test_a_full_disk_and_quit(self) -> None:
+        """What was written and what wasn't: all of it is kept once there is room."""
+        lines = [f"core {it:o} 5" for it in range(0o1000, 0o2000, 2)]
+        self.prepare = lambda: resource.setrlimit(resource.RLIMIT_FSIZE, (4096, LARGER))
+        self.begin()
+        self.type("".join(f"{it}\n" for it in lines))
+        self.wait_for(b"edits are in memory alone")
+        self.type("patches\n")
+        self.wait_for(b"patches 256")
+        self.type("\x04")
+        self.wait_for(b"256 edits not saved, and the journal can't be written: File too large: ")
+        limits = (LARGER, LARGER)
+        resource.prlimit(self.child.pid, resource.RLIMIT_FSIZE, limits)
+        self.type("quit\n")
+        self.wait_for(b"the past isn't saved: ./explore --resume takes up 256 edits")
+        self.child.wait(SECONDS)
+        written = self.explore("patches\n", "--resume").splitlines()
+        self.assertEqual(written[:2], ["256 edits taken up (session: none)", "patches 256"])
+
+    def test_a_journal_that_could_not_be_begun(self) -> None:
+        """It is whole once it can be, and has each edit once."""
+        state = self.folder / "state"
+        state.write_text("")
+        self.begin()
+        self.type("core 2000 5\n")
+        self.wait_for(b"edits are in memory alone")
+        self.type("core 2002 5\n")
+        self.wait_for(b"ok")
+        state.unlink()
+        self.end()
+        (journal,) = self.journals()
+        edits = "".join(self.LINE.replace("2000", it) for it in ("2000", "2002"))
+        self.assertEqual(journal.read_text(), f"#!\n# session none\n# at the prompt\n{edits}")
 
     def test_two_runs_have_two_journals(self) -> None:
         self.edit_and_die(signal.SIGKILL)
@@ -275,3 +337,45 @@ class TakenBack(AtTerminal):
         written = self.explore(lines + "undo\nevents\ndrop from\n").splitlines()[4:]
         self.assertEqual(written[:2], ["2 events dropped", "2 events"])
         self.assertEqual(written[4:6], ["taken back: drop from 10 (2 edits)", "4 events"])
+
+
+class ByEdits(OnMachine):
+    """What is taken back, at random, against a program that had the other edits alone."""
+
+    # TSTB @#177560; BPL .-4; MOVB @#177562,R0; MOV R0,2000(R1); TST (R1)+; BR: each key is kept
+    PROGRAM = "105737 177560 100375 113700 177562 10061 2000 5721 767"
+    ASKED = ("setup", "events", "patches", "regs 60", "mem 60 2000 8", "punched 60", "devices 4")
+
+    def edit(self, chance: random.Random, events: int, drive: str) -> str:
+        event = chance.choice(("key {:o}", "tick", "switches {:o}")).format(chance.randrange(100))
+        altered, turn = chance.randrange(1, events + 2), chance.randrange(5)
+        word = chance.choice(("2000", "2002", "02000"))
+        kinds = [f"core {word} {turn}", f"uncore {word}", f"at {turn} {event}", "tape 1 2"]
+        kinds += [f"disk {drive}{turn} 5", f"delay disk {turn}", f"delay clock {turn}", "tape 3"]
+        kinds += [f"alter {altered} {turn} {event}"] * 4
+        rare = ["version 2", f"drop {altered}"]
+        return chance.choice(rare if chance.random() < 0.1 else kinds)
+
+    def replies(self, edits: Sequence[str]) -> list[str]:
+        machine = self.explorer(edits=edits).machine
+        return [*map(machine.ask, self.ASKED), machine.ask("at 50 tick")]
+
+    def test_the_past_is_the_same(self) -> None:
+        kept = 0
+        words = enumerate(self.PROGRAM.split())
+        program = [f"core {0o1000 + 2 * at:o} {word}" for at, word in words]
+        for seed in range(24):
+            chance = random.Random(seed)
+            machine = self.explorer(edits=program).machine
+            for _ in range(chance.randrange(3, 20)):
+                drive = "0 " if "version 2" in machine.journal else ""
+                machine.ask(self.edit(chance, len(machine.script), drive))
+            machine.read("regs 60")
+            before = machine.program
+            for count in (chance.randrange(1, 4), 1):
+                machine.take_back(min(count, len(machine.journal) - len(program)))
+                wanted = self.replies(machine.journal)
+                self.assertEqual([*map(machine.ask, self.ASKED)], wanted[:-1], machine.journal)
+            kept += machine.program is before
+            self.assertEqual(machine.ask("at 50 tick"), wanted[-1], machine.journal)
+        self.assertGreater(kept, 5)

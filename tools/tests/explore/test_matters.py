@@ -30,7 +30,7 @@ IN_LEDGER = "14 15 within 200: dsk 138071 0 1"
 TABLE = [
     "matters: dsk 138071 0 1    dsk 000132",
     "event    turn  what    dropped  earlier         later",
-    "   14  126830  key 62  000136   by 180: 000140  by 91: 000140",
+    "   14  126830  key 62  000136   by 180: 000140  by 91:  000140",
     "   15  126967  key 66  same     by 135: 000136  by 198: 000140",
     "2 events",
 ]
@@ -134,6 +134,15 @@ def change_of(results: Results, event: Event) -> str:
 
 class InLedger(OnMachine):
     """The system of the examples."""
+
+    def test_parts_of_a_reply_begin_at_one_point(self) -> None:
+        """The line of the text before which the balance is 000137, whose keys are moved."""
+        line = "matters 13 14 15 within 200: text 238614\n"
+        rows = self.explore(line, f"examples/{LEDGER}").splitlines()[2:5]
+        moved = [re.findall(r"\.\.B3 [AB]", it) for it in rows]
+        self.assertEqual([len(it) for it in moved], [3, 3, 3])
+        places = {tuple(found.start() for found in re.finditer(r"\.\.B3", it)) for it in rows}
+        self.assertEqual(len(places), 1)
 
     def test_near_may_miss_one(self) -> None:
         lines = f"matters -j 2 {IN_LEDGER}\nmatters -j 2 14 15 near 200: dsk 138071 0 1\n"

@@ -55,7 +55,7 @@ class Terminal(AtTerminal):
             ("last 1 BALA\t", b"last never"),
             ("first 0 9 at BALA\t", b"first 0"),
             ("first 0 9 where R0 = 5 and core ot\t = 0", b"first 1"),
-            ("until PC ot\t", b"turn 1: kernel 001004 (other) HALT"),
+            ("until PC ot\t from 0", b"turn 1: kernel 001004 (other) HALT"),
             ("break kernel BALA\t if at BALA\t", b"breakpoint 1: break kernel 1000 (BALANCE)"),
             ("dump BALA\t 1", b"001000  012700"),
             ("last 1 user OTH\t", b"user 001004 is 001004 before turn 1"),

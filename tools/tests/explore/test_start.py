@@ -1,6 +1,9 @@
-"""Where Python's compiled modules are kept, so that explore starts at once."""
+"""Where Python's compiled modules are kept, and which are read, so that explore starts at once."""
 import subprocess
+import sys
 from pathlib import Path
+
+from nezdrab.explore.commands import COMMANDS, MODULES
 
 from .common import ROOT, SECONDS, Case
 
@@ -40,3 +43,40 @@ class Start(Case):
         self.starts(HOME="relative")
         self.starts(HOME="/dev/null")
         self.assertEqual(self.kept_in(ROOT / "src"), before)
+
+    def test_pythons_own_modules_are_read_where_they_are(self) -> None:
+        """They are compiled there, and would be compiled at each start that can keep nothing."""
+        code = "import encodings, os, sys; sys.exit(not os.access(encodings.__cached__, os.R_OK))"
+        path = {"PATH": "/usr/bin:/bin"}
+        if subprocess.run(["python3", "-c", code], env=path).returncode:
+            self.skipTest("this Python has its library uncompiled")
+        self.starts(HOME=str(self.folder))
+        kept = self.folder.rglob("*.pyc")
+        self.assertEqual([it.name for it in kept if str(ROOT) not in str(it)], [])
+
+
+class Commands(Case):
+    """Their modules are read when they are typed."""
+
+    def test_each_is_in_its_module(self) -> None:
+        folder = ROOT / "src" / "nezdrab" / "explore"
+        with_commands = {it.stem for it in folder.glob("*.py") if "\n@command(" in it.read_text()}
+        self.assertEqual(with_commands, {*MODULES})
+        modules = {name: it.run.__module__ for name, it in COMMANDS.items()}
+        named = {it: f"nezdrab.explore.{name}" for it, name in COMMANDS.modules.items()}
+        self.assertEqual(modules, named)
+        for it in COMMANDS.values():
+            self.assertEqual(it.pattern.pattern, it.source)
+
+    def test_none_is_read_at_the_start(self) -> None:
+        """None but those that the prompt itself needs; and then the one that is typed."""
+        code = (
+            "import sys\nfrom nezdrab.explore import commands, main\n"
+            "def show():\n"
+            "    read = [it for it in commands.MODULES if f'nezdrab.explore.{it}' in sys.modules]\n"
+            "    print(*read)\n"
+            "show()\ncommands.COMMANDS['log']\nshow()\n"
+        )
+        command, path = [sys.executable, "-S", "-B", "-c", code], str(ROOT / "src")
+        ran = subprocess.run(command, env={"PYTHONPATH": path}, capture_output=True, text=True)
+        self.assertEqual((ran.stdout, ran.stderr), ("defining display\ndefining display log\n", ""))

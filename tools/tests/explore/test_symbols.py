@@ -369,10 +369,19 @@ class Named(Media):
         written = self.explore(lines).splitlines()
         self.assertEqual(written[:2], ["2 symbols", "3 symbols"])
         names = [it.split("HALT")[1].strip() for it in written[2:]]
-        # of two names of a place the later one in the order of letters is shown
+        # of two names of a place the one that came last is shown
         self.assertEqual(names, ["K", "K+2", "C", "B", "K", "B"])
         written = self.explore(f"{lines}symbols two\nlist A 1 at 0\n").splitlines()
         self.assertIn("there is no symbol 'A'", written[-1])
+
+    def test_of_two_names_the_last_label_is_shown(self) -> None:
+        """Not the end of what is before it, in whichever order a table has them."""
+        lines = "1 001000 000000 RING: .WORD 0\n2 001002 RINGE:\n3 001002 000240 PRTINT: NOP\n"
+        table = "Symbol table\nPRTINT  001002   RING    001000   RINGE   001002\n"
+        for listing in (lines, lines + table, "RINGE 1002\nPRTINT 1002\n"):
+            (self.folder / "it").write_text(listing)
+            written = self.explore("symbols it\nlist RINGE 1 at 0\n").splitlines()
+            self.assertTrue(written[1].endswith("  PRTINT"), written)
 
     def test_names_are_added_to_one_mode(self) -> None:
         (self.folder / "one").write_text("A 1000\n")

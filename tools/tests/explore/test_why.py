@@ -99,7 +99,7 @@ class Backwards(OnMachine):
         self.assertEqual(explorer.turn, 127_800)
         self.assertIn("made of event 15, not of 1-14", lines_of(explorer, "why R2 at 127500"))
         lines = lines_of(explorer, "why 1524 at 127500")
-        self.assertTrue(any("23 operations on this one value (BIC MOVB)" in it for it in lines))
+        self.assertTrue(any("22 operations on it (MOVB BIC)" in it for it in lines))
         self.assertIn("made of no event, not of 1-15", lines)
         lines = lines_of(explorer, "why R2 at 127500")
         self.assertGreater(len(lines_of(explorer, "why R2 at 127500 places")), len(lines))

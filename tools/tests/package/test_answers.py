@@ -107,6 +107,19 @@ def searches_before(n: int) -> list[Row]:
 
 
 class Answers(Case):
+    def test_answers_have_hashes(self) -> None:
+        """Equal ones the same: a set has each once."""
+        machine = self.of_session("who-wrote-this-word.session")
+        calls: list[Callable[[int], object]] = [
+            *(machine.regs, machine.devices, machine.pages, lambda turn: machine.setup()),
+            lambda turn: next(machine.accesses(turn)),
+            lambda turn: machine.ask(questions.writes(0o1000, until=turn)),
+        ]
+        for call in calls:
+            found = [call(turn) for turn in (20, 20, 40)]
+            self.assertEqual(hash(found[0]), hash(found[1]))
+            self.assertEqual(len(set(found)), 1 + (found[0] != found[2]))
+
     def compare(self, session: Path, asked: list[Row]) -> None:
         machine = self.of_session(f"{session}.session")
         wanted = replies(EXAMPLES / f"{session}.session", [it.line for it in asked])

@@ -1,4 +1,5 @@
 """Edits and refusals, and what is no question at all."""
+import copy
 import pickle
 from typing import Callable
 
@@ -68,6 +69,7 @@ class Edits(Case):
             (lambda: self.machine(disks=disk), TypeError, "no option 'disks'"),
             (lambda: self.machine(start="1000"), TypeError, "integer"),
             (lambda: self.machine(program="/nowhere"), NezdrabError, "can't be started"),
+            (lambda: self.machine(core=b"\0\0"), TypeError, "core is the path of a file, a str"),
             (lambda: self.of_session("none.session"), NezdrabError, "no such file"),
         ]
         for call, kind, part in wrong:
@@ -113,6 +115,43 @@ class Edits(Case):
             other.regs(0)
 
 
+    def test_a_copy_is_a_fork(self) -> None:
+        machine = self.of_session("who-wrote-this-word.session")
+        for copied in copy.copy(machine), copy.deepcopy(machine):
+            with copied as other:
+                self.assertEqual(other.events(), machine.events())
+                other.drop(1)
+        self.assertEqual(machine.regs(40), machine.fork().regs(40))
+        self.assertEqual(len(machine.events()), 1)
+
+    def test_saved_sessions(self) -> None:
+        """The programs reply to a saved session as its machine does, and of_session gives the same
+        machine, also with numbers of events. No file is overwritten unasked."""
+        disk, path = self.folder / "rk05.disk", self.folder / "it.session"
+        disk.write_bytes(b"\1\2")
+        machine = self.machine(disk=disk, start=0o2000, stride=100)
+        machine.core[0o2000] = LOOP
+        for turn in 9, 7, 5:
+            machine.at(turn, "tick")
+        machine.drop(2)
+        machine.save(path)
+        lines = ["events", "patches", "setup", "regs 20", "dsk 0 0 1"]
+        self.assertEqual(replies(path, lines), machine.ask_all(lines))
+        again = Machine.of_session(path, program=machine._engine.start.program)
+        self.addCleanup(again.close)
+        self.assertEqual([it.number for it in again.events()], [3, 1])
+        self.assertEqual((again.ask_all(lines), again.at(6, "tick")), (machine.ask_all(lines), 4))
+        machine.drop(1)
+        before = path.read_text()
+        with self.assertRaisesRegex(NezdrabError, "there already; overwrite=True overwrites it"):
+            machine.save(path)
+        self.assertEqual(path.read_text(), before)
+        machine.save(path, overwrite=True)
+        self.assertEqual(path.read_text(), before + "drop 1\n")
+        with self.assertRaisesRegex(NezdrabError, "can't be written"):
+            machine.save(self.folder / "none" / "it.session")
+
+
 class Refusals(Case):
     def test_numbers_names_and_sentences(self) -> None:
         machine = self.machine()
@@ -123,9 +162,12 @@ class Refusals(Case):
             (lambda: machine.drop(7), 5, "no event has this number"),
             (lambda: machine.alter(7, turn=5), 5, "no event has this number"),
             (lambda: machine.regs(1_000_000_001), 7, "above 1000000000"),
-            (lambda: machine.mem(0, 0, 0), 8, "the count"),
-            (lambda: machine.trail(3, 4), 8, "the count"),
-            (lambda: machine.trail(3, 100), 8, "the count"),
+            (lambda: machine.mem(0, 0, 0), 8, "the count is 1 or more"),
+            (lambda: machine.dsk(0, 0, 0), 8, "the count is 1 or more"),
+            (lambda: machine.trail(3, 4), 8, "1 or more, and no more than the turn"),
+            (lambda: machine.trail(3, 100), 8, "1 or more, and no more than the turn"),
+            (lambda: list(machine.accesses(3, 0)), 8, "1 or more, and no more than the turn"),
+            (lambda: machine.ask("mem 0 0 257"), 8, "the count is not 1 to 256"),
             (lambda: machine.counts("user", 0, 257, until=9), 8, "the count"),
             (lambda: machine.first(pc=0, since=5, until=4), 8, "the count"),
             (lambda: machine.core.__delitem__(0), 9, "no patch"),
@@ -163,6 +205,8 @@ class Refusals(Case):
             (lambda: machine.first(trap=4, mode="user"), TypeError, "belongs to a pc"),
             (lambda: machine.translate(0, "super", 0), ValueError, "super"),
             (lambda: machine.at(1, key="AB"), ValueError, "one character"),
+            (lambda: machine.at(1, key="\u20ac"), ValueError, "no byte of Latin-1 is '\u20ac'"),
+            (lambda: pickle.dumps(machine), TypeError, r"fork\(\) gives another one"),
             (lambda: machine.at(1, "tick", key="A"), TypeError, "here are 2"),
             (lambda: machine.core.__setitem__(0, [1, "x"]), TypeError, "integer"),  # type: ignore
             (lambda: machine.mem(0, "TICK"), NezdrabError, "no symbol 'TICK'"),

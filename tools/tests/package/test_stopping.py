@@ -2,14 +2,15 @@
 import os
 import signal
 import threading
+import warnings
 from contextlib import contextmanager
 from types import FrameType
 from typing import Iterator, Optional, Sequence
 from unittest import mock
 
-from nezdrab import Machine, NezdrabError, ProgramEnded, TimedOut
+from nezdrab import Machine, ProgramEnded, TimedOut
 
-from .common import SECONDS, Case
+from .common import SECONDS, Case, program
 
 LOOP = [0o5200, 0o776]  # INC R0; BR .-2
 SOON = 0.3  # seconds; what is stopped waits for ever
@@ -27,6 +28,12 @@ def ctrl_c() -> Iterator[None]:
 
 
 class Stopping(Case):
+    def setUp(self) -> None:
+        """A shell starts what is in its background with Ctrl-C ignored."""
+        super().setUp()
+        before = signal.signal(signal.SIGINT, signal.default_int_handler)
+        self.addCleanup(signal.signal, signal.SIGINT, before)
+
     def stuck(self, word: str) -> Machine:
         """A machine with edits, whose program never replies to lines that begin with the word."""
         machine = self.machine(program=self.stuck_program(word), seconds=SECONDS)
@@ -122,8 +129,27 @@ class Stopping(Case):
                 Machine(program=program)
 
     def test_closed(self) -> None:
+        """Nothing starts it again."""
         with self.machine() as machine:
             self.assertEqual(machine.regs(0).pc, 0o1000)
-        with self.assertRaisesRegex(NezdrabError, "was closed"):
-            machine.regs(0)
+        for line in "regs 0", "at 5 tick":
+            with self.assertRaises(ProgramEnded) as caught:
+                machine.edit(line) if line.startswith("at") else machine.ask(line)
+            self.assertEqual(str(caught.exception), "the machine was closed")
         machine.close()
+
+    def test_unclosed(self) -> None:
+        """The program of a machine ends with it, and leaves no zombie; but not with a copy of the
+        machine in a process that os.fork makes."""
+        machine = Machine(program=program())
+        process = machine._engine.program.process.pid
+        child = os.fork()
+        if child == 0:
+            warnings.simplefilter("ignore")  # the copy's pipes are closed unsaid
+            del machine
+            os._exit(0)
+        os.waitpid(child, 0)
+        self.assertEqual(machine.regs(5).pc, 0o1002)
+        del machine
+        with self.assertRaises(ProcessLookupError):
+            os.kill(process, 0)

@@ -1,4 +1,8 @@
 """Sweeps: their answers are those of a machine with the event at each turn."""
+import itertools
+import tracemalloc
+from typing import Iterator
+
 from nezdrab import Machine, Refused, Unreadable, questions
 
 from .common import Case
@@ -48,6 +52,28 @@ class Sweeps(Case):
         for processes in 1, 2:
             swept = machine.sweep("disk", turns, questions.dsk(70, 0, 300), processes=processes)
             self.assertEqual([(turn, list(words)) for turn, words in swept], wanted)
+
+    def test_turns_are_taken_as_answers_are(self) -> None:
+        """A few parts of 32 ahead, also of turns without end, by the one who asks: a generator may
+        ask the machine itself."""
+        machine, question = self.of_session("who-wrote-this-word.session"), questions.dsk(40, 0)
+        wanted, taken = self.each(machine, 1, range(0, 40)), []
+
+        def turns() -> Iterator[int]:
+            for turn in itertools.count():
+                taken.append(machine.setup().version * turn)
+                yield turn
+
+        for processes in 1, 3:
+            taken.clear()
+            swept = itertools.islice(machine.sweep(1, turns(), question, processes=processes), 40)
+            self.assertEqual([(turn, word[0]) for turn, word in swept], wanted)
+            self.assertLess(len(taken), 40 + 32 * (processes + 2))
+        tracemalloc.start()
+        self.addCleanup(tracemalloc.stop)
+        many = machine.sweep(1, range(10**8), question)
+        self.assertEqual([next(many)[0] for _ in range(3000)], list(range(3000)))
+        self.assertLess(tracemalloc.get_traced_memory()[1], 1_000_000)
 
     def test_what_cant_be_swept(self) -> None:
         machine = self.of_session("who-wrote-this-word.session")

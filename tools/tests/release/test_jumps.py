@@ -1,4 +1,4 @@
-"""tools/check-jumps, on a script that stands in the place of the program, and bench/jumps, on a
+"""tools/check jumps and each-turn, on a script that stands in the place of the program, and bench/jumps, on a
 program in C."""
 import os
 import shutil
@@ -50,12 +50,13 @@ class EachTurn(unittest.TestCase):
         (self.folder / "rows").mkdir()
         (self.folder / "rows" / "three.transcript").write_text(TRANSCRIPT)
 
-    def last_line(self, wrong: str, *words: str) -> str:
-        program = self.folder / "program"
+    def last_line(self, wrong: str, name: str) -> str:
+        program = self.folder / "pdp11"
         program.write_text(PROGRAM.format(wrong=wrong))
         program.chmod(0o755)
         ran = subprocess.run(
-            [str(ROOT / "tools" / "check-jumps"), *words, str(program), "rows"],
+            [str(ROOT / "tools" / "check"), name, "--skipped", "0", "rows"],
+            env={**os.environ, "TESTED_PDP11": str(program)},
             capture_output=True,
             text=True,
             timeout=SECONDS,
@@ -64,16 +65,16 @@ class EachTurn(unittest.TestCase):
         return ran.stdout.splitlines()[-1]
 
     def test_which_questions_are_asked(self) -> None:
-        self.assertEqual(self.last_line("0", "--each-turn"), "1 passed, 0 failed")
-        self.assertEqual((self.folder / "program.lines").read_text(), WITH_EACH_TURN)
+        self.assertEqual(self.last_line("0", "each-turn"), "1 passed, 0 failed")
+        self.assertEqual((self.folder / "pdp11.lines").read_text(), WITH_EACH_TURN)
 
     def test_a_turn_that_is_wrong_from_a_loaded_state(self) -> None:
         wrong = "last == 0 and turn == 3"
-        self.assertEqual(self.last_line(wrong), "1 passed, 0 failed")
-        self.assertEqual(self.last_line(wrong, "--each-turn"), "0 passed, 1 failed")
+        self.assertEqual(self.last_line(wrong, "jumps"), "1 passed, 0 failed")
+        self.assertEqual(self.last_line(wrong, "each-turn"), "0 passed, 1 failed")
 
     def test_a_program_that_stops(self) -> None:
-        self.assertEqual(self.last_line("1 // 0", "--each-turn"), "0 passed, 1 failed")
+        self.assertEqual(self.last_line("1 // 0", "each-turn"), "0 passed, 1 failed")
 
 
 BURST, PLACE = chosen()

@@ -269,7 +269,13 @@ class ByThisNode(Tree):
         path = os.pathsep.join(map(str, [self.folder / "bin", *self.path]))
         environment, pipe = {**os.environ, "PATH": path}, subprocess.PIPE
         command = [*before, str(self.tree / "pdp11")]
-        with subprocess.Popen(command, env=environment, stdin=pipe, stdout=pipe) as ran:
+        with subprocess.Popen(
+            command,
+            env=environment,
+            stdin=pipe,
+            stdout=pipe,
+            preexec_fn=lambda: signal.signal(sent, signal.SIG_DFL),  # the caller may ignore it
+        ) as ran:
             assert ran.stdin and ran.stdout
             ran.stdin.write(b"core 1000 777\nregs 1000000000\n")
             ran.stdin.flush()
@@ -290,7 +296,7 @@ class ByThisNode(Tree):
 
 
 class CheckNode(Tree):
-    """What tools/check-node finds."""
+    """What tools/check by-node finds."""
 
     @unittest.skipUnless(shutil.which("node"), "node isn't installed")
     def test_a_session_with_another_reply(self) -> None:
@@ -303,10 +309,10 @@ class CheckNode(Tree):
 
     def test_without_node(self) -> None:
         self.path = path_without(self.folder, "rt", "node")
-        ended = self.run_in(str(ROOT / "tools" / "check-node"), str(ROOT / "rows"))
+        ended = self.run_in(str(ROOT / "tools/check"), "by-node", str(ROOT / "rows"))
         self.assertEqual((ended.returncode, self.said), (77, "node isn't installed\n"))
 
     def test_no_such_folder(self) -> None:
-        ended = self.run_in(str(ROOT / "tools" / "check-node"), "nowhere")
+        ended = self.run_in(str(ROOT / "tools/check"), "by-node", "nowhere")
         self.assertEqual((ended.returncode, ended.stdout), (2, ""))
         self.assertIn("nowhere: no such folder", ended.stderr)

@@ -90,7 +90,7 @@ class TestRules(unittest.TestCase):
         self.assertIn("Word.antt: [P] stands outside the comments of definitions", told)
 
     def shown(self, number: str) -> tuple[int, str, str]:
-        """What `check-rules NUMBER` ends with and writes."""
+        """What `check rules NUMBER` ends with and writes."""
         out, wrong = io.StringIO(), io.StringIO()
         with self.tree({}) as root, contextlib.redirect_stdout(out):
             with contextlib.redirect_stderr(wrong):
@@ -113,7 +113,7 @@ class TestRules(unittest.TestCase):
 
     def test_what_is_no_rule_is_told(self) -> None:
         for number in ("1.4", "", "[", "1.2.3"):
-            said = f"check-rules: docs/MACHINE.md has no rule {number}\n"
+            said = f"check: docs/MACHINE.md has no rule {number}\n"
             self.assertEqual(self.shown(number), (2, "", said))
 
 

@@ -68,10 +68,15 @@ class Lacking(Tree):
 
     def test_a_part_has_no_variables_of_the_caller(self) -> None:
         self.write("tools/release", PART, 0o755)
-        with mock.patch.dict(os.environ, {"PYTHONUNBUFFERED": "1", "TMPDIR": str(self.folder)}):
+        mine = {"PYTHONUNBUFFERED": "1", "TESTED_SEARCH": "mine", "TMPDIR": str(self.folder)}
+        with mock.patch.dict(os.environ, mine):
             self.run_in("bash", ".ci/run", "--without-proofs")
         lines = (self.tree / "environment").read_text().splitlines()
         names = {it.partition("=")[0] for it in lines} - {"PWD", "SHLVL", "_", "OLDPWD"}
+        programs = {f"TESTED_{it}" for it in ("PDP11", "SEARCH", "DISASSEMBLE")}
+        self.assertLessEqual(programs, names)
+        self.assertNotIn("TESTED_SEARCH=mine", lines)
+        names -= programs
         self.assertLessEqual({"HOME", "PATH", "TMPDIR"}, names)
         self.assertLessEqual(names, {"HOME", "PATH", "TERM", "LANG", "TMPDIR"})
         self.assertIn("release: 99 passed, 0 failed, 2 skipped", self.said)

@@ -1,13 +1,14 @@
 """Programs that are opened: tapes of the absolute loader and a.outs, with their symbols, and
 listings. Core and symbols are compared with what explore's readers find in the same files."""
+import os
 import random
 import struct
-import time
 from pathlib import Path
 
 from nezdrab.explore.absolute_tape import tape_of
 from nezdrab.explore.aout import program_of
 from nezdrab.explore.symbol_files import symbol_file
+from tests import processes
 from tests.explore.media import PROGRAM, TAPE, tape, words
 
 from .common import LOST, ROOT, packed_page, replies_of
@@ -176,16 +177,17 @@ class Loading(LoadingCase):
         self.assertIn("PC 001000", self.type_line("regs 0"))
 
     def test_a_program_of_all_of_core_takes_no_long_time(self) -> None:
-        """At most a minute, or on a slow computer 40 times as long as for a sixteenth of it."""
+        """At most a minute of the processor, or on a slow one 40 times what a sixteenth takes."""
         short = self.seconds_of(0o7000)
         self.assertLess(self.seconds_of(0o160000), max(60, 40 * short))
 
     def seconds_of(self, size: int) -> float:
-        """The time in which a program of this size is loaded, taken back, and there again."""
+        """What of the processor it takes to load a program of this size, take it back, and have it
+        there again."""
         self.empty()
         data = random.Random(size).randbytes(size)
         parts = [(at, data[at : at + 0o1000]) for at in range(0, size, 0o1000)]
-        began = time.monotonic()
+        before = processes.seconds(os.getpid())
         self.loads(self.put("all.lda", tape(*parts)))
         self.assertEqual(self.words(size - 2, 1), list(struct.unpack("<H", data[-2:])))
         self.browser.click("#undo")
@@ -198,7 +200,7 @@ class Loading(LoadingCase):
         self.assertEqual(self.words(0, 1), list(struct.unpack("<H", data[:2])))
         shown = self.browser.value("document.querySelectorAll('#edits code').length")
         self.assertLess(shown, 300)
-        seconds = time.monotonic() - began
+        seconds = processes.seconds(os.getpid()) - before
         self.browser.click("#undo")
         self.count(0)
         return seconds

@@ -3,19 +3,19 @@ makes of it, for right files and for wrong ones."""
 import base64
 import http.server
 import json
+import os
 import random
 import re
 import struct
 import tempfile
 import threading
-import time
 from pathlib import Path
 from typing import Any, Iterable
 
 from nezdrab.explore.errors import ExploreError
 from nezdrab.explore.load import loaded
 from nezdrab.explore.symbol_files import Symbol, symbol_file
-from tests import counted
+from tests import counted, processes
 from tests.explore.media import PROGRAM, TAPE, block, program, symbol, tape, words
 from tests.explore.test_symbols import FORMATS, MAP_OF_RT11
 
@@ -187,18 +187,18 @@ class Symbols(ReadersCase):
         self.check_texts("\n".join(lines[at:]) for at in range(len(lines)))
 
     def test_long_lines_take_no_time(self) -> None:
-        """At most a minute, or on a slow computer 40 times as long as for much shorter ones."""
+        """At most a minute of the processor, or on a slow one 40 times what far shorter ones take."""
         short = self.seconds_of(10_000)
         self.assertLess(self.seconds_of(200_000), max(60, 40 * short))
 
     def seconds_of(self, length: int) -> float:
-        """The time that lines of about this length take."""
-        began = time.monotonic()
+        """What lines of about this length take of the processor."""
+        before = processes.seconds(os.getpid())
         for part in ("A", "A 000001 ", "000001 ", "A:"):
             line = part * (length // len(part)) + "!" * (part == "A 000001 ")
             heads = ("", "RT-11 LINK  Load Map\n", "Global symbols:\n", "Symbol table\n")
             self.check_texts(head + line for head in heads)
-        return time.monotonic() - began
+        return processes.seconds(os.getpid()) - before
 
 
 class Kinds(ReadersCase):

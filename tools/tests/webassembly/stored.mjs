@@ -5,7 +5,7 @@ import { Host, readerOf, zeros } from "../../../web/host.js";
 
 const bytes = text => Buffer.from(text, "base64");
 
-// The sessions of a kind, `.session` or `.search`, in the file that tools/check-web writes.
+// The sessions of a kind, `.session` or `.search`, in the file that tools/checks/web.py writes.
 export function sessionsIn(file, kind) {
   return JSON.parse(fs.readFileSync(file))[kind].map(({ lines, expected, ...session }) => ({
     ...session,

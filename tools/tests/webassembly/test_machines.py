@@ -10,6 +10,7 @@ import bundle
 import sessions
 from nezdrab.explore.page_file import PageSession
 from tests import under_test
+from tests.web import timing
 from tests.web.browser import Browser, found_browser
 from tests.web.firefox import Firefox, found_firefox
 from webassembly import files
@@ -190,21 +191,14 @@ class Machines(unittest.TestCase):
         self.assertEqual(self.ask("regs 1")[0], "Stopped")
 
     def test_the_page_is_never_blocked(self) -> None:
+        """No task of the page takes long, by the processor's time."""
         self.begin()
         self.ask(*LOOP)
-        # on a busy computer a wait is longer than on an idle one
-        idle = self.waits("new Promise(resolve => setTimeout(resolve, 500))")
-        self.assertGreater(self.waits("tried(it, ['regs 30000000'])"), 0.1 * idle)
 
-    def waits(self, promise: str) -> float:
-        """How many short waits in a second the page makes until a promise is kept."""
-        found = self.value(
-            "const start = performance.now(); let times = 0, isKept = false;"
-            f"{promise}.then(() => {{ isKept = true; }});"
-            "while (!isKept) { await new Promise(resolve => setTimeout(resolve, 1)); times += 1; }"
-            "return 1000 * times / (performance.now() - start);"
-        )
-        return float(found)
+        def act() -> None:
+            self.ask("regs 30000000")
+
+        self.assertLess(self.browser.longest_task(act), timing.long_task(self.browser))
 
     def test_a_program_that_ends(self) -> None:
         for words, status, text in (

@@ -128,7 +128,9 @@ def disassembled(explorer: Explorer, sources: Sources, fields: Fields) -> Iterat
     """The instructions of a request `disassemble`, as many as it asks for."""
     mode, address = moved_place(fields, "memoryReference")
     moved, count = fields.number("instructionOffset", 0), fields.number("instructionCount")
-    if not 0 <= count <= MOST_INSTRUCTIONS or abs(moved) > MOST_INSTRUCTIONS:
+    if count < 0:
+        raise ExploreError(f"instructionCount is {count}, less than 0")
+    if max(count, abs(moved)) > MOST_INSTRUCTIONS:
         raise ExploreError(f"a request is for {MOST_INSTRUCTIONS} instructions at most")
     start = address & ~1
     last = start + LONGEST * (max(0, moved) + count)

@@ -13,6 +13,19 @@ from .variables import Scope, variables
 from .wire import Object
 
 
+LACKING = {
+    "hitCondition": "no hits are counted here: a condition, such as core 2000 = 3, names the time",
+    "logMessage": "no breakpoint logs here, each stops: see and changes list turns in the console",
+}
+
+
+def check_done(fields: Fields) -> None:
+    """An error if a breakpoint has what isn't done here."""
+    for name, why in LACKING.items():
+        if fields.text(name, ""):
+            raise ExploreError(f"{name}: {why}")
+
+
 def each_set(
     client: Client, items: Iterator[Fields], make: Callable[[Fields], Object]
 ) -> Object:
@@ -20,6 +33,7 @@ def each_set(
     shown: list[Object] = []
     for it in items:
         try:
+            check_done(it)
             shown.append({"verified": True, **make(it)})
         except ExploreError as error:
             line = {"line": it.values["line"]} if type(it.values.get("line")) is int else {}

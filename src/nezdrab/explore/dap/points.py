@@ -28,7 +28,6 @@ TRAPS = {
     0o250: "memory management",
 }
 ACCESSES = {"write": ("watch",), "read": ("rwatch",), "readWrite": ("watch", "rwatch")}
-OPERATOR = re.compile(r"\s*(==|!=|=|<|>|&)\s*")
 
 
 def filters() -> Iterator[Object]:
@@ -42,11 +41,6 @@ def filters() -> Iterator[Object]:
                 "supportsCondition": True,
                 "conditionDescription": "what holds before the turn, such as R0 = 5 and user",
             }
-
-
-def as_condition(text: str) -> str:
-    """A condition as `first N M where` has it: editors and their users write == and no spaces."""
-    return OPERATOR.sub(lambda it: f" {'=' if it[1] == '==' else it[1]} ", text).strip()
 
 
 @dataclass
@@ -77,7 +71,7 @@ class Points:
 
     def at(self, place: Place, condition: str, group: str, path: str = "") -> Breakpoint:
         mode = f"{place.mode.value} " if place.mode in SPACES and place.mode else ""
-        text = f" if {as_condition(condition)}" if condition else ""
+        text = f" if {condition}" if condition else ""
         return self.added(f"break {mode}{place.address:o}{text}", group, path)
 
     def replace(self, point: Breakpoint) -> None:
@@ -103,7 +97,7 @@ class Points:
         numbers = self.explorer.symbols.numbers
         modes = [it.value for it, names in numbers.items() if name in names]
         mode = f"{modes[0]} " if len(modes) == 1 else ""
-        text = f" if {as_condition(condition)}" if condition else ""
+        text = f" if {condition}" if condition else ""
         return {"id": self.added(f"break {mode}{name}{text}", FUNCTIONS).number}
 
     def of_instruction(self, fields: Fields, place: Place) -> Object:
@@ -124,7 +118,7 @@ class Points:
             points = [self.added(f"{it} {address[1]}", DATA) for it in ACCESSES[access]]
             self.editors.update((it.number, points[0].number) for it in points)
             return {"id": points[0].number}
-        sought = condition_sought(self.explorer, [as_condition(condition)]) if condition else ""
+        sought = condition_sought(self.explorer, [condition]) if condition else ""
         point = self.added(f"watch {address[1]}", DATA)
         if sought:
             text = f"{point.text} if {condition}"
@@ -136,7 +130,7 @@ class Points:
     def of_vector(self, name: str, condition: str = "") -> Object:
         if name not in {it["filter"] for it in filters()}:
             raise ExploreError(f"there is no filter '{name}'")
-        sought = condition_sought(self.explorer, [as_condition(condition)]) if condition else ""
+        sought = condition_sought(self.explorer, [condition]) if condition else ""
         point = self.added(f"catch {name}", VECTORS)
         if sought:
             text = f"{point.text} if {condition}"

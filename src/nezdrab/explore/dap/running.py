@@ -9,7 +9,7 @@ from ..calls import doubt_lines, ended_levels
 from ..commands import Explorer
 from ..errors import ExploreError
 from ..finder import growing_parts
-from ..levels import Call, Stacks, call_in, left_in
+from ..levels import Call, Return, Stacks, call_in
 from ..machine import LAST_TURN
 from .frames import Frame
 
@@ -123,7 +123,7 @@ def back(explorer: Explorer, bottom: int = 0, reason: str = "entry") -> Run:
 
 def to_return(explorer: Explorer, end: int, call: Call) -> Run:
     """On to where the routine of a call has returned."""
-    return ahead(explorer, end, lambda turns: left_in(explorer.machine, call, turns))
+    return ahead(explorer, end, Return(explorer.machine, call).first)
 
 
 def step_in(explorer: Explorer, end: int) -> Run:

@@ -4,6 +4,7 @@ import os
 import socket
 import subprocess
 import sys
+from pathlib import Path
 
 from ..errors import ExploreError
 from ..interrupts import INTERRUPTS
@@ -18,8 +19,10 @@ HOST, LARGEST_PORT = "127.0.0.1", 65_535
 BEGIN = "from nezdrab.explore.main import dap; sys.exit(dap())"
 DESCRIPTION = """\
 What an editor starts to debug in a recorded run, forwards and backwards: it speaks the Debug
-Adapter Protocol on standard input and output, or with --port on that port of this computer alone,
-to each editor by a process of its own. docs/EDITORS.md has what `launch` takes."""
+Adapter Protocol on standard input and output; with --socket to one editor, on a socket that is
+yours alone; or with --port on that port of this computer alone, to each editor by a process of its
+own. Each user of the computer may come to the port, and do in your name what the console does.
+docs/EDITORS.md has what `launch` takes."""
 
 
 def new_parser() -> Parser:
@@ -31,7 +34,9 @@ def new_parser() -> Parser:
         formatter_class=argparse.RawDescriptionHelpFormatter,
     )
     parser.add_argument("--version", action=ShowVersion, help="shows the newest release, and ends")
-    parser.add_argument("--port", metavar="N", help="waits there for editors; 0 is any free port")
+    where = parser.add_mutually_exclusive_group()
+    where.add_argument("--port", metavar="N", help="waits there for editors; 0 is any free port")
+    where.add_argument("--socket", metavar="PATH", help="waits there for one editor")
     parser.add_argument("--program", metavar="FILE", default="", help="a built search")
     parser.add_argument("--disassembler", metavar="FILE", default="", help="a built disassemble")
     return parser
@@ -65,6 +70,26 @@ def listening(port: str) -> socket.socket:
     return server
 
 
+def client_at(path: str) -> socket.socket:
+    """The first editor that comes to a socket of this user alone, which is gone then."""
+    server = socket.socket(socket.AF_UNIX)
+    mask = os.umask(0o177)
+    try:
+        server.bind(path)
+    except OSError as error:
+        raise ExploreError(f"--socket {path}: {error.strerror or error}") from error
+    finally:
+        os.umask(mask)
+    try:
+        with server:
+            server.listen(1)
+            put(f"{path} waits for an editor; Ctrl-C ends")
+            with INTERRUPTS.allowed():
+                return server.accept()[0]
+    finally:
+        Path(path).unlink(missing_ok=True)
+
+
 def serve_port(found: argparse.Namespace) -> None:
     """Starts an adapter for each editor that comes, until Ctrl-C. It ends those that are left."""
     server, words = listening(found.port), []
@@ -91,12 +116,15 @@ def serve_port(found: argparse.Namespace) -> None:
 def serve(words: list[str]) -> int:
     """Returns the exit status."""
     found = arguments(words)
+    programs = Programs(found.program, found.disassembler)
     if found.port is not None:
         serve_port(found)
+    elif found.socket is not None:
+        with client_at(found.socket) as editor:
+            Adapter(Wire(editor.fileno(), editor.fileno()), programs).serve()
     elif sys.stdin.isatty():
         complain("an editor starts this, and speaks to it; docs/EDITORS.md has how")
         return 2
     else:
-        programs = Programs(found.program, found.disassembler)
         Adapter(private_streams(), programs).serve()
     return 0

@@ -13,6 +13,11 @@ from .wire import Object
 
 STACK_WORDS, TEXT_LINES = 18, 16
 SWITCHES = "SWR"
+# How another value comes about of what power-up sets.
+AT_POWER_UP = {
+    "PC": ": `start` of launch is another",
+    SWITCHES: ": at 0 switches {word} sets it in turn 0",
+}
 
 
 @dataclass(frozen=True)
@@ -117,10 +122,13 @@ def edit_for(explorer: Explorer, scope: Scope, name: str, text: str) -> str:
         word = -1
     if not 0 <= word < VIRTUAL:
         raise ExploreError(f"'{text}' is no word: up to six octal digits, 177777 at most")
-    if name == SWITCHES and scope.turn:
-        return f"at {scope.turn - 1} switches {word:o}"
-    if found.core is not None and scope.turn == 0:
+    if scope.turn == 0:
+        if found.core is None:
+            more = AT_POWER_UP.get(name, "").format(word=f"{word:o}")
+            raise ExploreError(f"{name} before turn 0 is what power-up makes it{more}")
         return f"core {found.core:o} {word:o}"
+    if name == SWITCHES:
+        return f"at {scope.turn - 1} switches {word:o}"
     further = "; before turn 0 a word of core can be set" if found.core is not None else ""
     raise ExploreError(
         f"{name} before turn {scope.turn} is what the turns before made it{further}: change the "
