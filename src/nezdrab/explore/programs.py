@@ -63,14 +63,9 @@ def own_command() -> str:
 
 
 def become(program: str, command: str) -> NoReturn:
-    """Runs the program of this name in the place of this process, under the name of the command.
-    What has no option --version of its own shows that of the package; pdp11 has none."""
+    """Runs the program of this name in the place of this process, under the name of the
+    command."""
     try:
-        if program != "pdp11" and sys.argv[1:] == ["--version"]:
-            from .options import version_of  # which takes a while to read
-
-            print(version_of(program), flush=True)
-            sys.exit(0)
         os.execv(found_program(program), [command, *sys.argv[1:]])
     except (ExploreError, OSError) as error:
         print(f"{command}: {error}", file=sys.stderr)

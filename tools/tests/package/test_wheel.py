@@ -143,7 +143,7 @@ class Wheel(Case):
         self.assertIn("ADD #7,@#2000", shown)
         for name in "search", "disassemble":
             said = self.run_in(self.room, str(self.away / "bin" / f"nezdrab-{name}"), "--version")
-            self.assertEqual(said, f"{name} of Nezdrab, release {nezdrab.__version__} or later\n")
+            self.assertEqual(said, f"{name} {nezdrab.__version__}\n")
         for command in ("nezdrab", "nezdrab-search"):
             shown = self.run_in(self.room, str(self.away / "bin" / command), given="regs 0\n")
             self.assertIn("PC 001000", shown)

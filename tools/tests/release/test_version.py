@@ -1,16 +1,33 @@
 """The option --version of what has one."""
-from .tree import Tree
+import subprocess
+import unittest
+
+from ..under_test import program
+from .tree import ROOT, Tree
+
+
+class Programs(unittest.TestCase):
+    """What is told by the programs themselves, which name the release in their sources."""
+
+    def output_of(self, name: str, option: str) -> str:
+        command = [program(name), option]
+        ran = subprocess.run(command, stdout=subprocess.PIPE, stdin=subprocess.DEVNULL, check=True)
+        return ran.stdout.decode()
+
+    def test_each_names_the_release_of_the_file_version(self) -> None:
+        release = (ROOT / "VERSION").read_text(encoding="ascii").strip()
+        self.assertEqual(self.output_of("search", "--version"), f"search {release}\n")
+        self.assertEqual(self.output_of("disassemble", "--version"), f"disassemble {release}\n")
+        self.assertIn(f"\nNezdrab {release}; ", self.output_of("pdp11", "--help")[:200])
 
 
 class Version(Tree):
-    def test_each_program_but_pdp11(self) -> None:
-        self.make_release()
+    def test_explore_and_the_debug_adapter(self) -> None:
         self.write("VERSION", "2031-02-03\n")
-        for command in "./search", "./disassemble", "./explore", "./explore dap":
+        for command in "./explore", "./explore dap":
             ended = self.run_in(*command.split(), "--version")
             wanted = f"{command[2:]} of Nezdrab, release 2031-02-03 or later\n"
             self.assertEqual((self.said, ended.returncode), (wanted, 0))
-        self.assertEqual(self.run_in("./pdp11", "--version").stdout, "a program: --version\n")
 
     def test_the_release_of_the_file_version(self) -> None:
         self.write("VERSION", "2031-02-03\n")
