@@ -4,8 +4,7 @@ from typing import Optional
 
 from .commands import Explorer, check_turn
 from .errors import ExploreError
-from .listing import IO_PAGE, UNIT_BYTES
-from .operand_values import NAMES_IN_THE_IO_PAGE
+from .options import UNIT_BYTES
 from .replies import Mode
 from .symbols import ADDRESS
 
@@ -70,6 +69,9 @@ def beside_register(explorer: Explorer, text: str) -> str:
     is_near = FIRST_OF_IO <= address <= LARGEST
     if not is_near or address >= machine.setup.units * UNIT_BYTES:
         return ""
+    from .listing import IO_PAGE  # which few lines need
+    from .operand_values import NAMES_IN_THE_IO_PAGE
+
     mode = machine.registers(turn).mode
     (place,) = machine.places([(turn, mode, address & ~1)])
     if place is None or place < IO_PAGE:
