@@ -10,6 +10,7 @@ import unittest
 
 from checks.by_name import CHECKS
 from tests import processes
+from tests.quick import QUICK
 
 from .tree import ROOT, SECONDS, Tree
 
@@ -66,6 +67,12 @@ class Parts(Tree):
         wanted = {"test_explore.py --quick", "check sessions --stride 10000", "check help"}
         self.assertLessEqual(wanted, {*self.words()})
         self.assertFalse([it for it in self.words() if "portable" in it])
+
+    def test_the_quick_tests_are_there(self) -> None:
+        loader = unittest.TestLoader()
+        for folder, names in QUICK.items():
+            loader.loadTestsFromNames([f"tests.{folder}.{it}" for it in names])
+        self.assertEqual(loader.errors, [])
 
     def test_what_fails_in_the_quick_ones_is_shown(self) -> None:
         self.write("tools/make-manual", COMMAND.replace("0 failed", "1 failed"), 0o755)
