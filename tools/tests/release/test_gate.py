@@ -7,6 +7,7 @@ import subprocess
 import sys
 import time
 import unittest
+from typing import Callable
 
 from checks.by_name import CHECKS
 from tests import processes
@@ -91,12 +92,23 @@ class Parts(Tree):
             stderr=subprocess.DEVNULL,
             preexec_fn=lambda: signal.signal(signal.SIGINT, signal.SIG_DFL),
         ) as ran:
-            limit = time.monotonic() + SECONDS
-            while not (path.exists() and path.read_text()) and time.monotonic() < limit:
-                time.sleep(0.01)
-            ran.send_signal(signal.SIGINT)
-            self.assertEqual(ran.wait(SECONDS), 130)
-        self.assertEqual(processes.family(int(path.read_text())), [])
+            self.until(lambda: path.exists() and path.read_text() != "")
+
+            def has_ended() -> bool:
+                """Bash loses one that comes while it waits for what a command writes."""
+                ran.send_signal(signal.SIGINT)
+                return ran.poll() is not None
+
+            self.until(has_ended)
+            self.assertEqual(ran.returncode, 130)
+        waits = int(path.read_text())
+        self.until(lambda: not processes.family(waits))
+
+    def until(self, holds: Callable[[], bool]) -> None:
+        limit = time.monotonic() + SECONDS
+        while not holds():
+            self.assertLess(time.monotonic(), limit)
+            time.sleep(0.1)
 
 
 class Checks(unittest.TestCase):
