@@ -103,7 +103,8 @@ def parser_of(description: Optional[str]) -> argparse.ArgumentParser:
 
 
 def run_quick(folder: str) -> int:
-    """Runs the quick tests of a folder, and names the modules that are left out."""
+    """Runs the quick tests of a folder, and names the modules that are left out, or a part of
+    which is."""
     there = [it.stem for it in sorted((FOLDER / folder).glob("test_*.py"))]
     left_out = [it.removeprefix("test_") for it in there if it not in QUICK[folder]]
     names = [f"tests.{folder}.{it}" for it in QUICK[folder]]

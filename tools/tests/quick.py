@@ -1,5 +1,5 @@
-"""Which modules of tests `bash .ci/run --quick` runs: they show most in little time. A further
-one that takes a few seconds of the processor may be named here."""
+"""Which tests `bash .ci/run --quick` runs, by module or by class: they show most in little time.
+What takes a few seconds of the processor may be named here too."""
 
 QUICK = {
     "explore": [
@@ -8,5 +8,6 @@ QUICK = {
         *("test_screen", "test_sequences", "test_texts", "test_turn_flow", "test_unnoticed"),
     ],
     "package": ["test_answers", "test_edits", "test_programs"],
-    "web": ["test_sources", "test_types", "test_units", "test_story"],
+    "web": ["test_sources", "test_units", "test_types.Types.test_the_types_are_right"]
+    + ["test_story.Said", "test_story.Happened"],
 }

@@ -7,9 +7,11 @@ import subprocess
 import sys
 import time
 import unittest
+from typing import Callable
 
 from checks.by_name import CHECKS
 from tests import processes
+from tests.quick import QUICK
 
 from .tree import ROOT, SECONDS, Tree
 
@@ -67,6 +69,12 @@ class Parts(Tree):
         self.assertLessEqual(wanted, {*self.words()})
         self.assertFalse([it for it in self.words() if "portable" in it])
 
+    def test_the_quick_tests_are_there(self) -> None:
+        loader = unittest.TestLoader()
+        for folder, names in QUICK.items():
+            loader.loadTestsFromNames([f"tests.{folder}.{it}" for it in names])
+        self.assertEqual(loader.errors, [])
+
     def test_what_fails_in_the_quick_ones_is_shown(self) -> None:
         self.write("tools/make-manual", COMMAND.replace("0 failed", "1 failed"), 0o755)
         ended = self.run_in("bash", ".ci/run", "--quick")
@@ -84,12 +92,23 @@ class Parts(Tree):
             stderr=subprocess.DEVNULL,
             preexec_fn=lambda: signal.signal(signal.SIGINT, signal.SIG_DFL),
         ) as ran:
-            limit = time.monotonic() + SECONDS
-            while not (path.exists() and path.read_text()) and time.monotonic() < limit:
-                time.sleep(0.01)
-            ran.send_signal(signal.SIGINT)
-            self.assertEqual(ran.wait(SECONDS), 130)
-        self.assertEqual(processes.family(int(path.read_text())), [])
+            self.until(lambda: path.exists() and path.read_text() != "")
+
+            def has_ended() -> bool:
+                """Bash loses one that comes while it waits for what a command writes."""
+                ran.send_signal(signal.SIGINT)
+                return ran.poll() is not None
+
+            self.until(has_ended)
+            self.assertEqual(ran.returncode, 130)
+        waits = int(path.read_text())
+        self.until(lambda: not processes.family(waits))
+
+    def until(self, holds: Callable[[], bool]) -> None:
+        limit = time.monotonic() + SECONDS
+        while not holds():
+            self.assertLess(time.monotonic(), limit)
+            time.sleep(0.1)
 
 
 class Checks(unittest.TestCase):
