@@ -5,7 +5,7 @@ from .commands import Arguments, Explorer, command, turns_between
 from .errors import ExploreError
 from .in_words import span
 from .levels import CHECKED_TURNS, MOST_WORDS_OF_A_STACK, Call, Level, Return, Stacks
-from .levels import call_in, pointer
+from .levels import call_in, loads_pointer, pointer
 from .machine import LAST_TURN, Machine
 from .stepping import shown
 
@@ -123,9 +123,11 @@ def over(explorer: Explorer, arguments: Arguments) -> Iterator[str]:
 
 
 def ended_levels(machine: Machine, turn: int) -> Iterator[Level]:
-    """The levels that ended in the turn before this one, the innermost first."""
+    """The levels that ended in the turn before this one, the innermost first. None is known to end
+    where SP is loaded, as when stacks are switched."""
     before, now = machine.registers(turn - 1), machine.registers(turn)
-    if now.words[pointer(before.mode)] > before.words[pointer(before.mode)]:
+    is_up = now.words[pointer(before.mode)] > before.words[pointer(before.mode)]
+    if is_up and not loads_pointer(machine, turn - 1):
         for level in Stacks(machine).levels(turn - 1):
             if now.words[pointer(level.call.inside)] <= level.call.slot:
                 return

@@ -216,6 +216,7 @@ class Machine:
             with suppress(ExploreError):
                 if edits is not None and all(map(is_taken, self.ask_all(edits, SHORT_SENT_AHEAD))):
                     self._setup = self._script = None
+                    self.asked.turn = 0  # the last question was about another past
                     self.is_ahead = self.is_ahead or now.given > past.given
                     return
             self.restart()

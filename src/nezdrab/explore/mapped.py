@@ -15,10 +15,10 @@ MAPPED_HELP = (
     "of that mode has it. It stands for the address of core that a read before turn N comes to; "
     "without N it is the turn of `from`, in `why` that of `at`, or the current turn. In other "
     "turns it may be another one. A line that takes a word of core from 160000 to 177777 says so, "
-    "if the mode of the current turn has the I/O page there."
+    "if the mode of the current turn, or kernel mode, has the I/O page there."
 )
 WORD_LINE = re.compile(
-    r"(?P<before>((?P<bare>mem[ \t]+[0-9]{1,10}|reads([ \t]+[0-9]{1,10}){2}|(un)?core)"
+    r"(?P<before>((?P<bare>mem[ \t]+[0-9]{1,10}|reads([ \t]+[0-9]{1,10}){2}|(un)?core|list|dump)"
     r"|last[ \t]+(?P<last>[0-9]{1,10})|writes[ \t]+(?P<writes>[0-9]{1,10})[ \t]+[0-9]{1,10}"
     r"|next|changes|watch|reads|rwatch|(?P<why>why)([ \t]+core)?|first[ \t]+core)[ \t]+)"
     r"((?P<mode>kernel|user)[ \t]+(?!(from|to)[ \t]))?"
@@ -59,8 +59,8 @@ def in_core(explorer: Explorer, line: str) -> Optional[tuple[str, str]]:
 
 
 def beside_register(explorer: Explorer, text: str) -> str:
-    """That a line takes the word of core at this address, where the mode of the current turn has
-    the I/O page."""
+    """That a line takes the word of core at this address, where the mode of the current turn, or
+    else kernel mode, has the I/O page."""
     try:
         address = explorer.symbols.number(text)
     except ExploreError:
@@ -72,9 +72,11 @@ def beside_register(explorer: Explorer, text: str) -> str:
     from .listing import IO_PAGE  # which few lines need
     from .operand_values import NAMES_IN_THE_IO_PAGE
 
-    mode = machine.registers(turn).mode
-    (place,) = machine.places([(turn, mode, address & ~1)])
-    if place is None or place < IO_PAGE:
-        return ""
-    there = f"{place:06o}, {NAMES_IN_THE_IO_PAGE.get(place, 'no register')}, before turn {turn}"
-    return f"{address:06o} is the word of core here; {mode.value} {address:06o} is {there}"
+    modes = machine.registers(turn).mode, Mode.KERNEL
+    places = machine.places([(turn, it, address & ~1) for it in modes])
+    for mode, place in zip(modes, places):
+        if place is not None and place >= IO_PAGE:
+            name = NAMES_IN_THE_IO_PAGE.get(place, "no register")
+            there = f"is {place | address & 1:06o}, {name}, before turn {turn}"
+            return f"{address:06o} is the word of core here; {mode.value} {address:06o} {there}"
+    return ""

@@ -229,6 +229,10 @@ class Calls(OnMachine):
             self.assertEqual(next(found), wanted, turn)
             loads += shadow.returned(turn, turns[turn + 1 :]) != wanted
         self.assertGreater(loads, 10)
+        loaded = [it + 1 for it in range(100, 800) if registers[it].pc == 0o1106]
+        for turn in loaded:  # neither task returned from anything
+            self.assertEqual(self.goes_to(explorer, turn, "reverse-over"), turn - 1)
+        self.assertGreater(len(loaded), 10)
 
     def test_a_routine_that_is_left_by_a_load(self) -> None:
         """JSR PC,1010; there MOV #1000,SP; JSR PC,1020; there a branch to itself."""

@@ -67,7 +67,7 @@ class Fades(Case):
         self.assertEqual(self.said(SWITCHES), [])
         self.machine.read("regs 128500")
         self.machine.take_back(1)
-        self.assertEqual(self.said(LATER), [])  # the program was started again
+        self.assertEqual(self.said(LATER), [])  # the question was about another past
 
     def test_patches(self) -> None:
         """They count from turn 0. One of a value that the word has anyway changes nothing."""
