@@ -77,7 +77,17 @@ export class EventList {
         : "The switches are a word: up to six octal digits, at most 177777.");
       return undefined;
     }
-    return app.edits.edit(`at ${app.view.timeline.cursor} ${event}`);
+    const { cursor } = app.view.timeline;
+    return app.edits.edit(`at ${cursor} ${event}`).then(() => this.bringIntoSight(cursor));
+  }
+
+  /** Scrolls the list, and not the page, to the last event of a turn.
+      @param {number} turn */
+  bringIntoSight(turn) {
+    const place = element("events"), links = place.querySelectorAll(`[data-turn="${turn}"]`);
+    const row = links[links.length - 1]?.getBoundingClientRect();
+    const { top, bottom } = place.getBoundingClientRect();
+    if (row) place.scrollTop += Math.min(0, row.top - top) + Math.max(0, row.bottom - bottom);
   }
 
   /** Takes an event out.
