@@ -124,12 +124,14 @@ export class EventList {
       shown.map(it => this.row(it))), make("p", { class: "faint" }, others));
   }
 
-  /** Puts another list into the place of this one. The focus stays at the event where it was.
+  /** Puts another list into the place of this one. The focus stays at the event where it was, and
+      the list as it is scrolled.
       @param {Node[]} made */
   replace(...made) {
-    const place = element("events"), { activeElement: it } = document;
+    const place = element("events"), { scrollTop } = place, { activeElement: it } = document;
     const name = it instanceof HTMLElement && place.contains(it) ? it.dataset.name : null;
     place.replaceChildren(...made);
+    place.scrollTop = scrollTop;
     if (name) focusOn(`[data-name="${name}"]`);
   }
 

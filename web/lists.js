@@ -52,8 +52,8 @@ export class List {
 
   /** It has other items. The focus doesn't leave it. */
   changed() {
-    const it = this.settle();
-    if (this.hasFocus && document.activeElement === document.body) it?.focus();
+    const it = this.settle(), isLost = this.hasFocus && document.activeElement === document.body;
+    if (isLost) it?.focus({ preventScroll: true });
   }
 
   /** @param {KeyboardEvent} event */

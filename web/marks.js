@@ -50,9 +50,16 @@ export class Marks {
     const inOrder = [...marks].sort((a, b) => Number(a.dataset.turn) - Number(b.dataset.turn));
     for (const it of inOrder) this.putIntoRow(it, ends);
     keepChildren(this.place, marks);
-    if (focused === null) return;
-    const mark = this.shown().find(it => it.dataset.event === `${focused}`);
-    (mark ?? this.list.settle())?.focus();
+    if (focused !== null) this.focusOn(focused);
+  }
+
+  /** Puts the focus on the mark that an event has, alone or with others.
+      @param {number} number */
+  focusOn(number) {
+    const turn = this.timeline.past.events.get(number)?.turn ?? NaN;
+    const found = this.shown().find(({ dataset: { event, first, last } }) =>
+      event === `${number}` || Number(first) <= turn && turn <= Number(last));
+    (found ?? this.list.settle())?.focus();
   }
 
   /** @param {ScriptEvent[]} events */

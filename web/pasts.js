@@ -151,6 +151,7 @@ export class NamedPasts {
       this.store();
       this.show(0);
       await this.compareWith(this.kept[0]);
+      this.choice.focus();
       app.say(`Forgotten: ${chosen.name}.`);
     });
   }

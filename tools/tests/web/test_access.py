@@ -33,7 +33,7 @@ WRONG = {
 
 BUTTONS = "[...document.querySelectorAll('button:enabled')].filter(it => it.checkVisibility())"
 STOPS = (
-    "[...document.querySelectorAll('a[href], button, input, select, textarea, summary, [tabindex]')]"
+    "[...document.querySelectorAll('button, input, select, summary, [tabindex]')]"
     ".filter(it => it.tabIndex >= 0 && !it.disabled && it.checkVisibility())"
 )
 
@@ -88,7 +88,9 @@ class Access(OpenCase):
 
     def test_forced_colours_hide_nothing(self) -> None:
         """The cursor, the pulse of the key that is to be moved, and lights that are on."""
-        self.browser.value("document.querySelector('#front').open = true")
+        self.browser.value(
+            "document.querySelector('#front').open = true; document.activeElement.blur()"
+        )
         self.wait_still()
         beat = "(it => { it.pause(); it.currentTime = %d; })(document.getAnimations()[0])"
         hide = "document.querySelector('.cursor').style.visibility = '%s'"
@@ -148,6 +150,11 @@ class Access(OpenCase):
         self.browser.key("Tab")
         self.browser.key("Tab", SHIFT)
         self.assertEqual(self.browser.value("document.activeElement.dataset.name"), "turn of 2")
+        self.browser.value("document.querySelector('#instructions .link').focus()")
+        self.browser.key("Enter")
+        self.wait_text("#registers-turn", "before turn 126961")
+        self.wait_still()
+        self.assertTrue(self.browser.value("document.activeElement.matches('#instructions .link')"))
         self.browser.value("document.querySelector('[data-event=\"14\"]').focus()")
         self.browser.key("ArrowRight")
         self.assertEqual(self.browser.value("document.activeElement.dataset.event"), "15")

@@ -184,7 +184,7 @@ class Lines(PageCase):
         self.browser.wait(f"document.querySelectorAll('#edits li').length === {count}")
 
     def test_control_z_undoes_and_control_y_makes_again(self) -> None:
-        """Once a line is entered, and wherever the focus is; text that isn't entered comes first."""
+        """Wherever the focus is; but in a field what was typed and isn't entered comes first."""
         for line in ("disk 0 101", "disk 0 102"):
             self.type_line(line)
         self.browser.key("z", CONTROL)

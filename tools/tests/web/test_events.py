@@ -121,8 +121,7 @@ class Events(PageCase):
         self.assertEqual(self.browser.value("document.activeElement.dataset.turn"), "500")
 
     def test_marks_of_one_turn_lie_apart(self) -> None:
-        """Two have marks of their own; more have one, and the focus stays at it. It lists them."""
-        self.browser.value(f"document.querySelector('{KEY}').focus()")
+        """Two have marks of their own; more have one, which lists them."""
         for count, shown in ((2, 2), (3, 1), (5, 1)):
             while len(self.edits()) < count - 1:
                 self.type_line(f"at {CURSOR} key {101 + count}")
@@ -134,18 +133,33 @@ class Events(PageCase):
         here = f"document.activeElement.dataset.turn === '{CURSOR}'"
         self.browser.wait(f"document.activeElement.closest('#events') && {here}")
 
+    def test_the_focus_stays_at_an_event_that_joins_others(self) -> None:
+        for key in ("101", "102"):
+            self.type_line(f"at {CURSOR + 2} key {key}")
+        self.wait_still()
+        self.browser.value(f"document.querySelector('{KEY}').focus()")
+        for _ in range(2):
+            self.browser.key("ArrowRight", ALT, is_up=False)
+        self.browser.key("Alt", is_down=False)
+        self.browser.wait("document.querySelectorAll('#edits li').length === 3")
+        self.wait_still()
+        self.assertEqual(self.browser.value("document.activeElement.textContent"), "\u00d73")
+        self.browser.key("Enter")
+        self.browser.wait(f"document.activeElement.dataset.turn === '{CURSOR + 2}'")
+
     def test_what_is_added_is_in_sight(self) -> None:
         """The list scrolls to it, and no further; the page stays."""
         self.browser.click("#event-value")
         self.browser.type("A")
         page = self.browser.value("scrollY")
+        scrolled = "document.querySelector('#events').scrollTop"
         for count in (1, 2):
-            before = self.browser.value("document.querySelector('#events').scrollTop")
+            before = self.browser.value(scrolled)
             self.browser.key("Enter")
             self.browser.wait(f"document.querySelectorAll('#edits li').length === {count}")
             self.wait_still()
             self.assertTrue(self.browser.value(ADDED_IS_SEEN), count)
-        self.assertLess(self.browser.value("document.querySelector('#events').scrollTop"), before + 30)
+        self.assertLess(self.browser.value(scrolled), before + 30)
         self.assertEqual(self.browser.value("scrollY"), page)
 
     def test_a_move_by_keys_hides_what_was_told(self) -> None:

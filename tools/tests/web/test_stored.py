@@ -104,6 +104,7 @@ class Stored(PageCase):
         self.browser.click("#past-forget")
         self.wait_text("#reply", "Forgotten: one.")
         self.assertEqual(self.names(), ["as it was opened"])
+        self.assertEqual(self.browser.value("document.activeElement.id"), "compared-with")
         self.assertTrue(self.browser.value("document.querySelector('#past-forget').disabled"))
         self.browser.open(self.address)
         self.assertEqual(self.names(), ["as it was opened"])
