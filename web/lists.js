@@ -22,7 +22,8 @@ export class List {
     this.place = place;
     /** Which item Tab comes to. */
     this.at = 0;
-    this.hasFocus = false;
+    /** @type {HTMLElement | null} the item that has the focus, or lost it by going away */
+    this.last = null;
     /** Whether the focus came by a click: then arrows are keys of the timeline. */
     this.isClicked = false;
     place.addEventListener("pointerdown", () => { this.isClicked = true; });
@@ -30,11 +31,12 @@ export class List {
     new MutationObserver(() => this.changed()).observe(
       place, { childList: true, subtree: true, attributeFilter: ["disabled"] });
     place.addEventListener("focusin", ({ target }) => {
-      this.hasFocus = true;
       this.at = Math.max(0, this.items.findIndex(it => it === target));
-      this.settle();
+      this.last = this.settle() ?? null;
     });
-    place.addEventListener("focusout", () => { this.hasFocus = false; });
+    place.addEventListener("focusout", ({ target }) => queueMicrotask(() => {
+      if (this.last === target && this.last?.isConnected) this.last = null;
+    }));
     place.addEventListener("keydown", event => this.onKey(event));
     this.settle();
   }
@@ -52,8 +54,8 @@ export class List {
 
   /** It has other items. The focus doesn't leave it. */
   changed() {
-    const it = this.settle(), isLost = this.hasFocus && document.activeElement === document.body;
-    if (isLost) it?.focus({ preventScroll: true });
+    const it = this.settle(), isLost = this.last?.isConnected === false;
+    if (isLost && document.activeElement === document.body) it?.focus({ preventScroll: true });
   }
 
   /** @param {KeyboardEvent} event */
