@@ -86,11 +86,12 @@ class Tour(PageCase):
         """With `--only picture_of_the_readme --shots docs` it takes docs/page.png anew."""
         self.browser.call("Emulation.setScrollbarsHidden", hidden=True)
         self.addCleanup(self.browser.call, "Emulation.setScrollbarsHidden", hidden=False)
-        self.browser.size(1180, 800)
+        self.browser.size(1180, 824)
         self.browser.open(self.address)
         self.browser.drag(KEY, 100)
         self.balance(SAFE)
         self.wait_text("#difference", "Drive 0")
+        self.browser.wait("document.querySelector('#work').hidden")
         self.browser.mouse("mouseMoved", 5, 5)
         self.browser.value("document.activeElement.blur(); scrollTo(0, 0)")
         self.shot("page")
