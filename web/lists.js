@@ -4,7 +4,7 @@ const ITEMS = "button:enabled, input:enabled, summary";
 
 /** Of rows of items: that to which a key goes from one of them, or undefined.
     @template Item @param {Item[][]} rows @param {Item} from @param {string} key */
-export function itemAt(rows, from, key) {
+function itemAt(rows, from, key) {
   const items = rows.flat(), at = items.indexOf(from);
   const row = rows.findIndex(it => it.includes(from)), column = rows[row].indexOf(from);
   const [above, below] = [rows[row - 1] ?? [], rows[row + 1] ?? []];
