@@ -55,7 +55,7 @@ export function checkSize(name, option, size, units = UNITS) {
 export function checkImages({ name, arguments: words, files }) {
   const options = optionsOf(words, name), units = Number(options.get("units") ?? UNITS);
   for (const [option, file] of options) {
-    if (namesFile(option)) checkSize(file, option, files[file].length, units);
+    if (namesFile(option)) checkSize(file, option, files[file]?.length ?? 0, units);
   }
 }
 

@@ -80,19 +80,22 @@ function bindEdits(app) {
   onClick("sweep-stop", () => app.sweep.end());
 }
 
-/** Ctrl+Z undoes; with shift, or as Ctrl+Y, it makes again. A field has an undo of its own if text
-    was typed there and isn't entered yet. */
+/** Ctrl+Z undoes; with shift, or as Ctrl+Y, it makes again. A field has an undo of its own as long
+    as what was typed there isn't entered. */
 function bindUndoKeys() {
-  /** @type {Set<EventTarget | null>} */
-  const typed = new Set();
-  addEventListener("input", event => event instanceof InputEvent && typed.add(event.target));
+  /** @type {Map<EventTarget | null, string>} what stood in a field before that */
+  const before = new Map();
+  addEventListener("beforeinput", ({ target }) => {
+    if (target instanceof HTMLInputElement && !before.has(target)) before.set(target, target.value);
+  });
   addEventListener("submit", ({ target }) => {
-    for (const it of /** @type {HTMLFormElement} */ (target).elements) typed.delete(it);
+    for (const it of /** @type {HTMLFormElement} */ (target).elements) before.delete(it);
   });
   addEventListener("keydown", event => {
-    const key = event.key.toLowerCase();
+    const { target } = event, key = event.key.toLowerCase(), old = before.get(target);
     const isAsked = (event.ctrlKey || event.metaKey) && !event.altKey && ["y", "z"].includes(key);
-    if (!isAsked || typed.has(event.target)) return;
+    const hasOwn = target instanceof HTMLInputElement && target.value !== (old ?? target.value);
+    if (!isAsked || hasOwn) return;
     event.preventDefault();
     element(key === "y" || event.shiftKey ? "redo" : "undo").click();
   });

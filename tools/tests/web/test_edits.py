@@ -202,6 +202,10 @@ class Lines(PageCase):
         self.browser.wait("document.querySelector('#line').value !== 'regs 5'")
         self.wait_still()
         self.assertEqual(self.edits(), ["disk 0 101", "disk 0 102"])
+        while self.browser.value("document.querySelector('#line').value"):
+            self.browser.key("z", CONTROL)
+        self.browser.key("z", CONTROL)
+        self.wait_edits(1)
 
     def test_the_last_undo_keeps_the_focus(self) -> None:
         self.type_line("disk 0 101")
