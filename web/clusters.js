@@ -1,8 +1,10 @@
 // Which events have a mark of their own: if there are too many of them, those near one another have
-// one together, with their count.
+// one together, with their count; and so have those of one turn that have no room there.
 
 const MOST_MARKS = 300;
 const PIXELS = 48;
+/** So many marks have room in one turn. */
+export const MARK_ROWS = 2;
 
 /**
  * Events that follow one another on the timeline.
@@ -15,22 +17,22 @@ const PIXELS = 48;
 /** The clusters of events in sight. They lie the same when the turns in sight move.
     @param {ScriptEvent[]} events @param {View} view */
 export function clustersOf(events, view) {
-  if (events.length <= MOST_MARKS) return events.map(it => ({ event: it, last: it, count: 1 }));
-  const turns = Math.max(1, view.span / view.width * PIXELS);
-  /** @type {Cluster[]} */
-  const found = [];
-  let before = null;
+  const isMany = events.length > MOST_MARKS;
+  const turns = isMany ? Math.max(1, view.span / view.width * PIXELS) : 1;
+  /** @type {Map<number, ScriptEvent[]>} */
+  const groups = new Map();
   for (const event of events) {
-    const place = Math.floor(event.turn / turns), cluster = found.at(-1);
-    if (!cluster || place !== before) found.push({ event, last: event, count: 1 });
-    else {
-      cluster.last = event;
-      cluster.count += 1;
-    }
-    before = place;
+    const place = Math.floor(event.turn / turns), group = groups.get(place);
+    if (group) group.push(event);
+    else groups.set(place, [event]);
   }
-  return found;
+  return [...groups.values()].flatMap(it =>
+    isMany || it.length > MARK_ROWS ? [clusterOf(it)] : it.map(one => clusterOf([one])));
 }
+
+/** @param {ScriptEvent[]} events @returns {Cluster} */
+const clusterOf = events =>
+  ({ event: events[0], last: events[events.length - 1], count: events.length });
 
 /** A cluster in words, such as `1000 events in the turns 5 to 900`.
     @param {Cluster} cluster */

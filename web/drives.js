@@ -2,7 +2,7 @@
 // taken away.
 
 import { takeDrops } from "./files.js";
-import { BYTES_OF_A_DRIVE, readFiles } from "./given.js";
+import { BYTES_OF_A_DRIVE, checkSize, readFiles } from "./given.js";
 import { foreignOf } from "./kinds.js";
 import { DRIVES } from "./memory.js";
 import { FileError, optionOfDrive, optionsOf } from "./options.js";
@@ -25,22 +25,14 @@ const VERSION_2 = ["# An image of another drive than 0 was chosen on the page.",
 const imageOf = (session, drive) =>
   optionsOf(session.arguments, session.name).get(optionOfDrive(drive));
 
-/** What is wrong with the size of an image, or an empty text.
-    @param {number} bytes */
-function wrongSize(bytes) {
-  if (bytes > BYTES_OF_A_DRIVE) return `a drive has ${BYTES_OF_A_DRIVE}`;
-  return bytes % 2 ? "an image has an even number of them" : "";
-}
-
 /** The image in a file. A FileError says why it can't be one.
     @param {File} file */
 async function imageIn(file) {
-  const shown = visibleName(file.name), why = wrongSize(file.size);
-  if (why) throw new FileError(`${shown} has ${counted(file.size, "byte")}, and ${why}. ${STAYS}`);
+  checkSize(file.name, "disk", file.size);
   const [image] = await readFiles([file]);
   const isWhole = image.bytes.length === BYTES_OF_A_DRIVE;
   const foreign = isWhole ? null : foreignOf(image.bytes);
-  if (foreign) throw new FileError(`${shown} is ${foreign}. ${STAYS}`);
+  if (foreign) throw new FileError(`${visibleName(file.name)} is ${foreign}. ${STAYS}`);
   return image;
 }
 

@@ -2,7 +2,7 @@
 
 import { keepEdits, sumOf } from "./kept.js";
 import { checkPlace, patchesOf } from "./loading.js";
-import { button, element, field, itemsOf, make } from "./page.js";
+import { element, field, itemsOf, make } from "./page.js";
 import { isEdit } from "./past.js";
 import { isRefused } from "./replies.js";
 import { Priority } from "./run.js";
@@ -253,7 +253,8 @@ export class Edits {
   kept() {
     const { run: { ledger }, end } = this.app.session;
     const off = ledger.off.map(({ change, place }) => ({ change: change.map(kept), place }));
-    return { changes: ledger.changes.map(it => it.map(kept)), off, end, saved: this.saved };
+    const { saved, app: { pasts: { compared } } } = this;
+    return { changes: ledger.changes.map(it => it.map(kept)), off, end, saved, compared };
   }
 
   noteSaved() {
@@ -277,8 +278,9 @@ export class Edits {
     element("edits-kept").hidden = keepEdits(contents, this.kept());
     this.showItems(itemsOfLedger(ledger).map(({ change, isOn }) =>
       (isOn ? "" : OFF) + change.map(edit => edit.line).join("\n")));
-    button("undo").disabled = !ledger.changes.length;
-    button("redo").disabled = !ledger.undone.length;
+    // (what is disabled would lose the focus)
+    element("undo").ariaDisabled = String(!ledger.changes.length);
+    element("redo").ariaDisabled = String(!ledger.undone.length);
   }
 }
 

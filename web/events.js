@@ -77,7 +77,17 @@ export class EventList {
         : "The switches are a word: up to six octal digits, at most 177777.");
       return undefined;
     }
-    return app.edits.edit(`at ${app.view.timeline.cursor} ${event}`);
+    const { cursor } = app.view.timeline;
+    return app.edits.edit(`at ${cursor} ${event}`).then(() => this.bringIntoSight(cursor));
+  }
+
+  /** Scrolls the list, and not the page, to the last event of a turn.
+      @param {number} turn */
+  bringIntoSight(turn) {
+    const place = element("events"), links = place.querySelectorAll(`[data-turn="${turn}"]`);
+    const row = links[links.length - 1]?.getBoundingClientRect();
+    const { top, bottom } = place.getBoundingClientRect();
+    if (row) place.scrollTop += Math.min(0, row.top - top) + Math.max(0, row.bottom - bottom);
   }
 
   /** Takes an event out.
@@ -114,12 +124,14 @@ export class EventList {
       shown.map(it => this.row(it))), make("p", { class: "faint" }, others));
   }
 
-  /** Puts another list into the place of this one. The focus stays at the event where it was.
+  /** Puts another list into the place of this one. The focus stays at the event where it was, and
+      the list as it is scrolled.
       @param {Node[]} made */
   replace(...made) {
-    const place = element("events"), { activeElement: it } = document;
+    const place = element("events"), { scrollTop } = place, { activeElement: it } = document;
     const name = it instanceof HTMLElement && place.contains(it) ? it.dataset.name : null;
     place.replaceChildren(...made);
+    place.scrollTop = scrollTop;
     if (name) focusOn(`[data-name="${name}"]`);
   }
 

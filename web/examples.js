@@ -1,7 +1,7 @@
 // The sessions that the page has besides the one that it begins with, and a disk or a program of
 // the user on a machine of its own.
 
-import { sessionOfFiles } from "./files.js";
+import { sessionOfFiles, takeDrops } from "./files.js";
 import { kindOf, readFiles } from "./given.js";
 import { firstSession, forgetSession, keepSession, sumOfSession } from "./kept.js";
 import { packedExamples, packedSession } from "./packed.js";
@@ -74,21 +74,16 @@ export class Examples {
     this.menu.open = false;
   }
 
-  /** An image of a disk is chosen, or dropped on the menu. */
+  /** An image of a disk is chosen, or dropped on the button. */
   listenForDisks() {
-    const chooser = field("boot-file");
-    element("boot").addEventListener("click", () => chooser.click());
+    const chooser = field("boot-file"), button = element("boot");
+    button.addEventListener("click", () => chooser.click());
     chooser.addEventListener("change", () => {
       const files = [...chooser.files ?? []];
       chooser.value = "";
       if (files.length) this.boot(files);
     });
-    this.menu.addEventListener("drop", event => {
-      event.preventDefault();
-      event.stopPropagation();
-      document.body.classList.remove("over");
-      this.boot([...event.dataTransfer?.files ?? []]);
-    });
+    takeDrops(button, files => this.boot(files));
   }
 
   /** The example with this key, if the page has it.

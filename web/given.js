@@ -3,12 +3,13 @@
 
 import { beginsAsAout, beginsAsTape, foreignOf } from "./kinds.js";
 import { SECTORS, SECTOR_WORDS, CYLINDERS, SURFACES } from "./hardware.js";
-import { FileError } from "./options.js";
-import { visibleName } from "./replies.js";
+import { FileError, UNITS, namesFile, optionsOf } from "./options.js";
+import { counted, visibleName } from "./replies.js";
 import { kindOfFile } from "./session.js";
 import { isListingOrMap } from "./symbol-files.js";
 
 export const BYTES_OF_A_DRIVE = 2 * CYLINDERS * SURFACES * SECTORS * SECTOR_WORDS;
+const [BYTES_OF_A_TAPE, BYTES_OF_A_UNIT] = [1_048_576, 8_192];
 // Names of images of core, and of tapes of the absolute loader.
 const MANY_THINGS = /\.bin$/i;
 const SURELY_SESSION = /\.(session|txt)$/i;
@@ -35,6 +36,27 @@ export function kindOf({ name, bytes }) {
   if (foreignOf(bytes)) return "other";
   if (bytes.includes(0)) return "other";
   return isListingOrMap(new TextDecoder().decode(bytes)) ? "symbols" : "session";
+}
+
+/** A FileError if a file of this size can't be what an option names.
+    @param {string} name @param {string} option @param {number} size */
+export function checkSize(name, option, size, units = UNITS) {
+  const isTape = option === "tape", [what, most] = isTape ? ["a tape", BYTES_OF_A_TAPE]
+    : option === "core" ? ["core", units * BYTES_OF_A_UNIT] : ["a drive", BYTES_OF_A_DRIVE];
+  const why = size > most ? `${what} has ${most}`
+    : size % 2 && !isTape ? "an image has an even number of them" : "";
+  if (!why) return;
+  const said = `${visibleName(name)} has ${counted(size, "byte")}, and ${why}.`;
+  throw new FileError(`${said} Nothing was changed.`);
+}
+
+/** A FileError if a session has a file that can't be what its option names.
+    @param {import("./session.js").Session} session */
+export function checkImages({ name, arguments: words, files }) {
+  const options = optionsOf(words, name), units = Number(options.get("units") ?? UNITS);
+  for (const [option, file] of options) {
+    if (namesFile(option)) checkSize(file, option, files[file]?.length ?? 0, units);
+  }
 }
 
 /** Why the page can't use a file.

@@ -10,9 +10,10 @@ import { isEdit } from "./past.js";
  */
 
 /**
- * The edits, the turn up to which the run was shown, and a sum of the past that was saved last.
+ * The edits, the turn up to which the run was shown, a sum of the past that was saved last, and the
+ * name of the past with which it is compared, if that isn't the session as it was opened.
  * @typedef {{changes: KeptEdit[][], end: number, off?: {change: KeptEdit[], place: number}[],
- *   saved: string | null}} KeptEdits
+ *   saved: string | null, compared?: string}} KeptEdits
  */
 
 /**
@@ -131,6 +132,6 @@ export function keptEdits(session) {
 /** Keeps the edits of a session. Returns whether the browser does so.
     @param {Session} session @param {KeptEdits} edits */
 export function keepEdits(session, edits) {
-  const hasAny = edits.changes.length || edits.off?.length;
+  const hasAny = edits.changes.length || edits.off?.length || edits.compared !== undefined;
   return keep(keyOfEdits(session), hasAny ? JSON.stringify(edits) : null);
 }

@@ -3,13 +3,15 @@
 import { App } from "./app.js";
 import { takeDrops } from "./files.js";
 import { forgetSession } from "./kept.js";
+import { List } from "./lists.js";
 import { keepLook } from "./look.js";
 import { choice, element, field } from "./page.js";
 import { LAST_TURN } from "./replies.js";
 
 /** @param {string} id @param {() => void} act */
 function onClick(id, act) {
-  element(id).addEventListener("click", act);
+  const it = element(id);
+  it.addEventListener("click", () => it.ariaDisabled !== "true" && act());
 }
 
 /** The field's form does this with its value, which is trimmed.
@@ -72,9 +74,31 @@ function bindEdits(app) {
   onForm("watch-form", "watch", value => app.watched.turnNamed(value));
   onClick("undo", () => app.edits.undo());
   onClick("redo", () => app.edits.redo());
+  bindUndoKeys();
   onClick("stop", () => app.stop());
   onForm("sweep-form", "sweep-question", () => app.attempt(() => app.sweep.begin()));
   onClick("sweep-stop", () => app.sweep.end());
+}
+
+/** Ctrl+Z undoes; with shift, or as Ctrl+Y, it makes again. A field has an undo of its own as long
+    as what was typed there isn't entered. */
+function bindUndoKeys() {
+  /** @type {Map<EventTarget | null, string>} what stood in a field before that */
+  const before = new Map();
+  addEventListener("beforeinput", ({ target }) => {
+    if (target instanceof HTMLInputElement && !before.has(target)) before.set(target, target.value);
+  });
+  addEventListener("submit", ({ target }) => {
+    for (const it of /** @type {HTMLFormElement} */ (target).elements) before.delete(it);
+  });
+  addEventListener("keydown", event => {
+    const { target } = event, key = event.key.toLowerCase(), old = before.get(target);
+    const isAsked = (event.ctrlKey || event.metaKey) && !event.altKey && ["y", "z"].includes(key);
+    const hasOwn = target instanceof HTMLInputElement && target.value !== (old ?? target.value);
+    if (!isAsked || hasOwn) return;
+    event.preventDefault();
+    element(key === "y" || event.shiftKey ? "redo" : "undo").click();
+  });
 }
 
 function begin() {
@@ -83,6 +107,9 @@ function begin() {
   bindTurns(app);
   bindEdits(app);
   keepLook(choice("look"), () => app.view.timeline.draw());
+  /** @type {NodeListOf<HTMLElement>} */
+  const lists = document.querySelectorAll("[data-list]");
+  for (const it of lists) new List(it);
   for (const name of ["popstate", "hashchange"]) {
     addEventListener(name, () => app.linking.follow(location.hash));
   }

@@ -1,11 +1,10 @@
 // The marks of events on the timeline: one for each event, or for those near one another, and grey
 // ones of the old past's events that are gone.
 
-import { clusterInWords, clustersOf } from "./clusters.js";
+import { MARK_ROWS, clusterInWords, clustersOf } from "./clusters.js";
+import { List } from "./lists.js";
 import { keepChildren } from "./page.js";
 import { eventInWords, eventLabel } from "./past.js";
-
-const MARK_ROWS = 2;
 
 /** About how many pixels a mark has from left to right.
     @param {HTMLElement} mark */
@@ -21,6 +20,7 @@ export class Marks {
   constructor(place, timeline) {
     this.place = place;
     this.timeline = timeline;
+    this.list = new List(place);
   }
 
   /** The number of the event whose mark has the focus, or null. */
@@ -45,11 +45,21 @@ export class Marks {
     const { focused } = this;
     // the grey ones lie below the others
     const ends = new Array(MARK_ROWS).fill(-Infinity);
-    const marks = [...this.ghostMarks(), ...this.eventMarks(seen)];
+    const events = this.eventMarks(seen), marks = [...this.ghostMarks(), ...events];
+    this.list.settle(events);
     const inOrder = [...marks].sort((a, b) => Number(a.dataset.turn) - Number(b.dataset.turn));
     for (const it of inOrder) this.putIntoRow(it, ends);
     keepChildren(this.place, marks);
-    if (focused !== null) this.shown().find(it => it.dataset.event === `${focused}`)?.focus();
+    if (focused !== null) this.focusOn(focused);
+  }
+
+  /** Puts the focus on the mark that an event has, alone or with others.
+      @param {number} number */
+  focusOn(number) {
+    const turn = this.timeline.past.events.get(number)?.turn ?? NaN;
+    const found = this.shown().find(({ dataset: { event, first, last } }) =>
+      event === `${number}` || Number(first) <= turn && turn <= Number(last));
+    (found ?? this.list.settle())?.focus();
   }
 
   /** @param {ScriptEvent[]} events */

@@ -3,7 +3,7 @@
 import {
   filesTogether, pageOfPast, saveFile, savedName, sessionOfFiles, startOf, textOfPast,
 } from "./files.js";
-import { readFiles } from "./given.js";
+import { checkImages, readFiles } from "./given.js";
 import {
   firstSession, forgetSession, isOwn, keepSession, keptEdits, sumOfSession,
 } from "./kept.js";
@@ -49,12 +49,15 @@ export class Opening {
     app.view.showBeginning();
     app.sweep.offer();
     await app.changed();
+    await app.pasts.restore(edits?.compared);
     app.view.goToPlace(place);
+    if (place.span === undefined && place.turn === undefined) app.view.showRunning();
   }
 
   /** A run with the session's lines, and those that were refused. What is open stays so far.
       @param {Session} contents @param {Loaded[]} programs for which it has room */
   async loaded(contents, programs) {
+    checkImages(contents);
     this.stop();
     const run = newRun(contents, this.app.bar);
     this.run = run;

@@ -4,7 +4,7 @@
 const FILES = /^(?:core|disk[1-7]?|tape)$/, MARK = "#!";
 // A line of a session has 200 bytes at most, comments too.
 const LONGEST_PART = 190;
-const UNITS = 31;
+export const UNITS = 31;
 // The options that are numbers: their digits, the least and the most, and how these are told.
 const DECIMAL = /^[0-9]{1,10}$/, EVEN = /^[0-7]{0,9}[0246]$/;
 const NUMBERS = new Map([

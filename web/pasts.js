@@ -84,6 +84,20 @@ export class NamedPasts {
     return this.kept[this.choice.selectedIndex];
   }
 
+  /** The name of the past that is compared with, if that isn't the session as it was opened. */
+  get compared() {
+    return this.choice.selectedIndex > 0 ? this.chosen.name : undefined;
+  }
+
+  /** Chooses the past with this name, if it is still there.
+      @param {string | undefined} name */
+  restore(name) {
+    const at = this.kept.findIndex((it, place) => place > 0 && it.name === name);
+    if (at < 0) return undefined;
+    this.choice.selectedIndex = at;
+    return this.choose();
+  }
+
   choose() {
     const { app, chosen } = this;
     return app.edits.inTurn(async () => {
@@ -137,6 +151,7 @@ export class NamedPasts {
       this.store();
       this.show(0);
       await this.compareWith(this.kept[0]);
+      this.choice.focus();
       app.say(`Forgotten: ${chosen.name}.`);
     });
   }
@@ -152,8 +167,7 @@ export class NamedPasts {
 
   /** What the old past is, such as `before your edits`. */
   inWords() {
-    const { selectedIndex } = this.choice;
-    return selectedIndex > 0 ? `in ${this.kept[selectedIndex].name}` : "before your edits";
+    return this.compared === undefined ? "before your edits" : `in ${this.compared}`;
   }
 
   // The old past

@@ -42,7 +42,6 @@ const REFUSALS = new Map([
   [7, `the turn or the delay is above ${LAST_TURN}`], [8, "the count is out of range"],
   [9, "this core word has no patch"], [10, "it isn't a line of the session language"],
   [11, "the line has more than 200 bytes"],
-  [14, "an image has more bytes than what it is for, or an odd number of them"],
   [16, "the drive's number is above 7"],
 ]);
 

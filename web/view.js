@@ -5,12 +5,16 @@ import { Minimap } from "./minimap.js";
 import { delayed, element, field } from "./page.js";
 import { Path } from "./path.js";
 import { keepPlace } from "./place.js";
+import { registersOf } from "./replies.js";
+import { Priority } from "./run.js";
 import { Sight } from "./sight.js";
 import { STORY } from "./story.js";
 import { Timeline } from "./timeline.js";
 import { Tips } from "./tips.js";
 
 const FEWEST_TURNS = 16;
+// A machine that halts runs in less than this part of the turns in sight: then it is shown alone.
+const SMALL_PART = 1 / 4;
 // The place is put into the address once the pointer or a key has rested so long.
 const PAUSE = 300;
 
@@ -83,6 +87,29 @@ export class PageView {
     if (isStory) timeline.show(STORY.first, STORY.span);
     else timeline.show(0, Math.max(FEWEST_TURNS, end));
     timeline.setCursor(isStory ? STORY.cursor : 0, { isTold: false });
+  }
+
+  /** Shows the turns up to which the machine runs, if it halts so early that they have few pixels,
+      and the user hasn't gone elsewhere by then. */
+  showRunning() {
+    const { app, timeline: { view } } = this, { run, end, isStory } = app.session;
+    const { first, span } = view, token = app.token("beginning");
+    const priority = run.isNear(end) ? Priority.CURSOR : Priority.COMPARISON;
+    /** @param {number} turn */
+    const isHalted = async turn =>
+      registersOf(await run.askOne(`regs ${turn}`, priority, token)).state === "halted";
+    return app.attempt(async () => {
+      if (isStory || !await isHalted(end)) return;
+      // after the last event it halts for good
+      let [low, high] = [run.past.script.at(-1)?.turn ?? 0, end];
+      while (high - low > 1) {
+        const middle = low + high >> 1;
+        if (await isHalted(middle)) high = middle;
+        else low = middle;
+      }
+      const isThere = view.first === first && view.span === span && high < span * SMALL_PART;
+      if (isThere) this.timeline.show(0, Math.max(FEWEST_TURNS, high * 1.1));
+    });
   }
 
   /** The run is shown at least up to this turn.

@@ -37,7 +37,7 @@ const nameOf = it => `${it.localName}${it.id && `#${it.id}`}${
   (it.textContent ?? "").trim().slice(0, 30)}`.trim();
 
 const isDrawn = it => it.checkVisibility({ visibilityProperty: true }) && !it.closest(".unseen");
-const isDisabled = it => it.closest(":disabled") !== null;
+const isDisabled = it => it.closest(":disabled, [aria-disabled=true]") !== null;
 
 /** The least contrast that a text of this style may have. */
 function leastOf({ fontSize, fontWeight }) {
@@ -126,7 +126,7 @@ const untold = ids => ids.filter(id => {
 
 /** What the keyboard goes to, in the order of the page. */
 const focusable = () => [...document.querySelectorAll(CONTROLS)]
-  .filter(it => it.tabIndex >= 0 && isDrawn(it) && !isDisabled(it));
+  .filter(it => it.tabIndex >= 0 && isDrawn(it) && !it.closest(":disabled"));
 
 /** Where the focus is among these, and what is wrong with how it is shown. */
 function focusNow() {

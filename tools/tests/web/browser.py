@@ -38,7 +38,7 @@ KEYS = {
     "Tab": 9,
     "Alt": 18,
 }
-ALT, SHIFT = 1, 8
+ALT, CONTROL, SHIFT = 1, 2, 8
 # What is traced: the tasks of each thread, and the marks that the page makes.
 TRACED = ["disabled-by-default-devtools.timeline", "blink.user_timing"]
 # Two frames: the page has heard of another size, and is drawn in it.
@@ -194,7 +194,9 @@ class Browser(Driven):
         while self.loads == before:
             self._note(self._message(end - time.monotonic()))
 
-    def size(self, width: int, height: int, is_dark: bool = False) -> None:
+    def size(
+        self, width: int, height: int, is_dark: bool = False, is_forced: bool = False
+    ) -> None:
         self.call(
             "Emulation.setDeviceMetricsOverride",
             width=width,
@@ -203,7 +205,8 @@ class Browser(Driven):
             mobile=False,
         )
         scheme = {"name": "prefers-color-scheme", "value": "dark" if is_dark else "light"}
-        self.call("Emulation.setEmulatedMedia", features=[scheme])
+        forced = {"name": "forced-colors", "value": "active" if is_forced else "none"}
+        self.call("Emulation.setEmulatedMedia", features=[scheme, forced])
         self.wait(f"innerWidth === {width} && innerHeight === {height}")
         self.value(SETTLED)
 
@@ -282,6 +285,7 @@ class Browser(Driven):
         code = KEYS.get(name, ord(name[0].upper()))
         words = {"key": name, "windowsVirtualKeyCode": code, "modifiers": modifiers}
         text = name if len(name) == 1 else "\r" if name == "Enter" else ""
+        text = "" if modifiers & CONTROL else text
         kind = "keyDown" if text else "rawKeyDown"
         if is_down:
             self.call("Input.dispatchKeyEvent", type=kind, text=text, **words)

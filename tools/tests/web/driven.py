@@ -19,7 +19,7 @@ PRESSED = """(async (name, take) => {
   if (!width || !height || !isSeen) return "it isn't shown";
   const isStill = x === before.x && y === before.y;
   if (!isStill || width !== before.width || height !== before.height) return "it moves";
-  if (it.disabled) return "it is disabled";
+  if (it.disabled || it.ariaDisabled === "true") return "it is disabled";
   const middle = [x + width / 2, y + height / 2], found = document.elementFromPoint(...middle);
   if (!found) return "its middle is out of sight";
   if (!it.contains(found)) return `this lies over it: ${found.outerHTML.slice(0, 200)}`;

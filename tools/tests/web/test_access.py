@@ -4,6 +4,7 @@ import json
 from pathlib import Path
 from typing import Any
 
+from .browser import SHIFT
 from .common import OpenCase
 
 CHECKS = Path(__file__).with_name("access.js").read_text()
@@ -19,7 +20,7 @@ MESSAGES = (
 # Each check, with what makes a page of which it must say something.
 WRONG = {
     "lowTexts()": "document.querySelector('#keys').style.color = '#aaa'",
-    "lowEdges()": "document.querySelector('#undo').disabled = false;"
+    "lowEdges()": "document.querySelector('#undo').ariaDisabled = 'false';"
     "document.querySelector('#undo').style.borderColor = '#eee'",
     f"lowMarks({json.dumps(MARKS)})": "document.documentElement.style"
     ".setProperty('--cpu', '#fafafa')",
@@ -29,6 +30,12 @@ WRONG = {
     "document.querySelector('#save').style.maxWidth = 'none'",
     f"untold({json.dumps(MESSAGES)})": "document.querySelector('#reply').role = 'note'",
 }
+
+BUTTONS = "[...document.querySelectorAll('button:enabled')].filter(it => it.checkVisibility())"
+STOPS = (
+    "[...document.querySelectorAll('button, input, select, summary, [tabindex]')]"
+    ".filter(it => it.tabIndex >= 0 && !it.disabled && it.checkVisibility())"
+)
 
 
 class Access(OpenCase):
@@ -79,6 +86,30 @@ class Access(OpenCase):
         self.browser.call("Emulation.setEmulatedMedia", features=features)
         self.assertEqual(self.browser.value(count), 0)
 
+    def test_forced_colours_hide_nothing(self) -> None:
+        """The cursor, the pulse of the key that is to be moved, and lights that are on."""
+        self.browser.value(
+            "document.querySelector('#front').open = true; document.activeElement.blur()"
+        )
+        self.wait_still()
+        beat = "(it => { it.pause(); it.currentTime = %d; })(document.getAnimations()[0])"
+        hide = "document.querySelector('.cursor').style.visibility = '%s'"
+        light = "document.querySelector('#front-run').classList.toggle('on', %s)"
+        for is_dark in (False, True):
+            self.browser.size(1280, 1000, is_dark, is_forced=True)
+            for seen, before, after in (
+                (".cursor", hide % "", hide % "hidden"),
+                (".mark.wanted", beat % 0, beat % 600),
+                ("#front-run", light % "true", light % "false"),
+            ):
+                with self.subTest(seen, is_dark=is_dark):
+                    self.browser.value(f"document.querySelector('{seen}').scrollIntoView()")
+                    self.browser.value(before)
+                    first = self.browser.screenshot()
+                    self.browser.value(after)
+                    self.assertTrue(self.browser.screenshot() != first, "it can't be seen")
+        type(self).is_open = False
+
     def test_the_keyboard_goes_through_all(self) -> None:
         """In the order of the page, without a trap, and what has the focus is marked."""
         self.wait_still()
@@ -93,6 +124,47 @@ class Access(OpenCase):
             self.browser.key("Tab")
         self.assertEqual(seen, list(range(all_of_them)))
         self.assertEqual(wrong, [])
+
+    def test_a_list_is_one_stop_with_arrows(self) -> None:
+        """Tab comes to one button of each list, and arrows to all others."""
+        self.wait_still()
+        stops, all_of_them = self.browser.value(f"[{STOPS}, {BUTTONS}].map(it => it.length)")
+        self.assertGreater(all_of_them, 200)
+        self.assertLess(stops, 80)
+        rows = int(self.browser.value("document.querySelectorAll('#events tbody tr').length"))
+        self.fill("#event-value", "A")
+        for _ in range(2):
+            self.browser.key("Tab")
+        for keys, row, name in (
+            ((), 1, "turn of 1"),
+            (("ArrowDown",) * 2, 3, "turn of 3"),
+            (("ArrowRight",) * 2, 3, "take out 3"),
+            (("ArrowUp",), 2, "take out 2"),
+            (("End",), rows, f"take out {rows}"),
+            (("Home",), 1, "turn of 1"),
+        ):
+            for key in keys:
+                self.browser.key(key)
+            self.assertEqual(self.browser.value("document.activeElement.dataset.name"), name, keys)
+        self.browser.key("ArrowDown")
+        self.browser.key("Tab")
+        self.browser.key("Tab", SHIFT)
+        self.assertEqual(self.browser.value("document.activeElement.dataset.name"), "turn of 2")
+        self.browser.value("document.querySelector('#instructions .link').focus()")
+        self.browser.key("ArrowDown")
+        self.browser.key("Enter")
+        self.wait_text("#registers-turn", "before turn 126962")
+        self.wait_still()
+        self.assertTrue(self.browser.value("document.activeElement.matches('#instructions .link')"))
+        self.browser.value("document.querySelector('[data-event=\"14\"]').focus()")
+        self.browser.key("ArrowRight")
+        self.assertEqual(self.browser.value("document.activeElement.dataset.event"), "15")
+
+    def test_keys_after_a_click_in_a_list_are_those_of_the_timeline(self) -> None:
+        self.browser.click("#instructions .link")
+        before = self.turn()
+        self.browser.key("ArrowRight")
+        self.assertEqual(self.turn(), before + 1)
 
     def test_a_focus_that_is_not_marked_is_found(self) -> None:
         self.found("beginFocus()")

@@ -2,7 +2,7 @@
 import json
 import re
 
-from .browser import ALT, SHIFT
+from .browser import ALT, CONTROL, SHIFT
 from .common import KEY, LOST, SAFE, PageCase, ledger_lines, replies_of
 
 
@@ -179,6 +179,48 @@ class Lines(PageCase):
             self.browser.click("#redo")
             self.browser.wait(count.format(done))
         self.assertEqual(self.type_line(asked), edited)
+
+    def wait_edits(self, count: int) -> None:
+        self.browser.wait(f"document.querySelectorAll('#edits li').length === {count}")
+
+    def test_control_z_undoes_and_control_y_makes_again(self) -> None:
+        """Wherever the focus is; but in a field what was typed and isn't entered comes first."""
+        for line in ("disk 0 101", "disk 0 102"):
+            self.type_line(line)
+        self.browser.key("z", CONTROL)
+        self.wait_edits(1)
+        self.browser.click("#events [data-turn='3000']")
+        self.browser.key("z", CONTROL)
+        self.wait_edits(0)
+        self.browser.click("#turns")
+        self.browser.key("y", CONTROL)
+        self.wait_edits(1)
+        self.browser.key("Z", CONTROL | SHIFT)
+        self.wait_edits(2)
+        self.fill("#line", "regs 5")
+        self.browser.key("z", CONTROL)
+        self.browser.wait("document.querySelector('#line').value !== 'regs 5'")
+        self.wait_still()
+        self.assertEqual(self.edits(), ["disk 0 101", "disk 0 102"])
+        while self.browser.value("document.querySelector('#line').value"):
+            self.browser.key("z", CONTROL)
+        self.browser.key("z", CONTROL)
+        self.wait_edits(1)
+
+    def test_the_last_undo_keeps_the_focus(self) -> None:
+        self.type_line("disk 0 101")
+        self.browser.click("#undo")
+        self.wait_edits(0)
+        self.wait_still()
+        self.assertEqual(self.browser.value("document.activeElement.id"), "undo")
+        self.browser.value("document.querySelector('#reply').textContent = 'as before'")
+        self.browser.key("Enter")
+        self.wait_still()
+        self.assertEqual(self.browser.text("#reply"), "as before")
+        self.browser.click("#redo")
+        self.wait_edits(1)
+        self.wait_still()
+        self.assertEqual(self.browser.value("document.activeElement.id"), "redo")
 
     def test_enter_on_an_event_opens_it(self) -> None:
         self.browser.value(f"document.querySelector('{KEY}').focus()")

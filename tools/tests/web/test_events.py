@@ -9,6 +9,21 @@ ROWS = (
     "[...it.cells].map(cell => cell.textContent))"
 )
 
+MARKS_OF_THE_TURN = (
+    f"[...document.querySelectorAll('button.mark')].filter(it => it.dataset.turn === '{CURSOR}')"
+)
+OVERLAPS = """(boxes => boxes.flatMap((one, at) => boxes.slice(at + 1).filter(other =>
+  one.left < other.right && other.left < one.right && one.top < other.bottom
+  && other.top < one.bottom)))([...document.querySelectorAll('.mark')]
+  .map(it => it.getBoundingClientRect()))"""
+# The last event of the cursor's turn is in the part of the list that is shown.
+ADDED_IS_SEEN = f"""(() => {{
+  const row = [...document.querySelectorAll("#events [data-turn='{CURSOR}']")].at(-1);
+  const list = document.querySelector('#events').getBoundingClientRect();
+  const {{top, bottom}} = row.getBoundingClientRect();
+  return top >= list.top - 1 && bottom <= list.bottom + 1;
+}})()"""
+
 
 class Events(PageCase):
     def add(self, kind: str, value: str = "") -> None:
@@ -104,6 +119,48 @@ class Events(PageCase):
         self.assertIn("361 events after them", self.browser.text("#events"))
         self.browser.value("new Promise(it => setTimeout(it, 400))")
         self.assertEqual(self.browser.value("document.activeElement.dataset.turn"), "500")
+
+    def test_marks_of_one_turn_lie_apart(self) -> None:
+        """Two have marks of their own; more have one, which lists them."""
+        for count, shown in ((2, 2), (3, 1), (5, 1)):
+            while len(self.edits()) < count - 1:
+                self.type_line(f"at {CURSOR} key {101 + count}")
+            self.wait_still()
+            self.assertEqual(self.browser.value(f"{MARKS_OF_THE_TURN}.length"), shown)
+            self.assertEqual(self.browser.value(OVERLAPS), [], count)
+        self.assertEqual(self.browser.text(".mark.cluster"), "\u00d75")
+        self.browser.click(".mark.cluster")
+        here = f"document.activeElement.dataset.turn === '{CURSOR}'"
+        self.browser.wait(f"document.activeElement.closest('#events') && {here}")
+
+    def test_the_focus_stays_at_an_event_that_joins_others(self) -> None:
+        for key in ("101", "102"):
+            self.type_line(f"at {CURSOR + 2} key {key}")
+        self.wait_still()
+        self.browser.value(f"document.querySelector('{KEY}').focus()")
+        for _ in range(2):
+            self.browser.key("ArrowRight", ALT, is_up=False)
+        self.browser.key("Alt", is_down=False)
+        self.browser.wait("document.querySelectorAll('#edits li').length === 3")
+        self.wait_still()
+        self.assertEqual(self.browser.value("document.activeElement.textContent"), "\u00d73")
+        self.browser.key("Enter")
+        self.browser.wait(f"document.activeElement.dataset.turn === '{CURSOR + 2}'")
+
+    def test_what_is_added_is_in_sight(self) -> None:
+        """The list scrolls to it, and no further; the page stays."""
+        self.browser.click("#event-value")
+        self.browser.type("A")
+        page = self.browser.value("scrollY")
+        scrolled = "document.querySelector('#events').scrollTop"
+        for count in (1, 2):
+            before = self.browser.value(scrolled)
+            self.browser.key("Enter")
+            self.browser.wait(f"document.querySelectorAll('#edits li').length === {count}")
+            self.wait_still()
+            self.assertTrue(self.browser.value(ADDED_IS_SEEN), count)
+        self.assertLess(self.browser.value(scrolled), before + 30)
+        self.assertEqual(self.browser.value("scrollY"), page)
 
     def test_a_move_by_keys_hides_what_was_told(self) -> None:
         self.browser.value(f"document.querySelector('{KEY}').focus()")

@@ -9,6 +9,8 @@ from .common import ROOT, PageCase, packed_page, replies_of
 EXAMPLES = ROOT / "examples"
 ASKED = ("regs 999", "text 1000", "mem 1000 1000 20")
 
+SPAN = "Number(new URLSearchParams(location.hash.slice(1)).get('turns'))"
+
 
 def bytes_of_tape(tape: bytes) -> dict[int, int]:
     """What the blocks of a tape of the absolute loader put into core."""
@@ -97,17 +99,37 @@ class Examples(PageCase):
         self.wait_text("#text", "COUNTS THE KEYS OF A LINE")
         self.wait_still()
         self.is_as(lines, "--start", "2000", "--disk", str(disk))
-        self.browser.click("#examples-menu summary")
         self.drop("#boot", EXAMPLES / "boot-rk0.disk")
         self.wait_text("#reply", "Booted: boot-rk0.disk")
         self.wait_text("#text", "BOOTED FROM RK0")
         odd = self.folder() / "odd.disk"
         odd.write_bytes(b"abc")
         self.browser.give_files("#boot-file", [str(odd)])
-        self.assertIn("odd number", self.wait_text("#reply", "BadImage"))
+        self.wait_text("#reply", "odd.disk has 3 bytes, and an image has an even number of them.")
         self.assertEqual(self.browser.text("#session-name"), "boot-rk0.disk")
         self.browser.give_files("#boot-file", [str(EXAMPLES / "first-run.session")])
         self.wait_text("#reply", "what begins here is one image of a disk")
+
+    def test_the_first_view_is_where_it_runs(self) -> None:
+        """A disk of HALTs stops after a few turns of the bootstrap: these are drawn."""
+        disk = self.folder() / "halts.disk"
+        disk.write_bytes(bytes(512))
+        self.browser.give_files("#boot-file", [str(disk)])
+        self.wait_text("#reply", "Booted: halts.disk")
+        self.browser.wait(f"{SPAN} < 1000")
+        lines = (EXAMPLES / "boot-rk0.session").read_text().splitlines()
+        asked = [f"regs {it}" for it in range(40)]
+        replies = replies_of([*lines, *asked], "--start", "2000", "--disk", str(disk))
+        turn = [it.split()[-1] for it in replies[-40:]].index("halted")
+        self.assertTrue(turn < self.browser.value(SPAN) < 2 * turn, turn)
+        self.browser.click("[data-key='0']")
+        self.browser.wait(f"{SPAN} === 1000000")
+
+    def test_a_disk_or_a_program_is_chosen_in_the_header(self) -> None:
+        self.browser.call("Page.setInterceptFileChooserDialog", enabled=True)
+        self.browser.click("#boot")
+        self.browser.call("Page.setInterceptFileChooserDialog", enabled=False)
+        self.assertIn("RK05", self.browser.value("document.querySelector('#boot').title"))
 
     def test_the_page_is_small(self) -> None:
         packed = Path(packed_page().removeprefix("file://"))

@@ -65,10 +65,17 @@ class Files(FilesCase):
     def test_an_image_that_is_wrong_is_told(self) -> None:
         if packed_page().startswith("http"):
             self.skipTest("the page isn't packed")
-        path = self.folder() / "odd.disk"
-        path.write_bytes(b"abc")
-        self.browser.give_files("#files", [str(path)])
-        self.assertIn("odd number", self.wait_text("#reply", "BadImage"))
+        for name, size, why in (
+            ("odd.disk", 3, "an image has an even number of them"),
+            ("long.disk", 2_494_466, "a drive has 2494464"),
+            ("odd.core", 5, "an image has an even number of them"),
+            ("long.core", 253_954, "core has 253952"),
+            ("long.tape", 1_048_577, "a tape has 1048576"),
+        ):
+            path = self.folder() / name
+            path.write_bytes(b"a" * size)
+            self.browser.give_files("#files", [str(path)])
+            self.wait_text("#reply", f"{name} has {size} bytes, and {why}. Nothing was changed.")
         self.balance(LOST)
 
     def test_a_saved_session_has_the_same_replies(self) -> None:

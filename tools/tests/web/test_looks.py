@@ -82,6 +82,20 @@ class Tour(PageCase):
         self.wait_text("#notes", "the first of each")
         self.shot(f"{name}-whole")
 
+    def test_the_picture_of_the_readme(self) -> None:
+        """With `--only picture_of_the_readme --shots docs` it takes docs/page.png anew."""
+        self.browser.call("Emulation.setScrollbarsHidden", hidden=True)
+        self.addCleanup(self.browser.call, "Emulation.setScrollbarsHidden", hidden=False)
+        self.browser.size(1180, 824)
+        self.browser.open(self.address)
+        self.browser.drag(KEY, 100)
+        self.balance(SAFE)
+        self.wait_text("#difference", "Drive 0")
+        self.browser.wait("document.querySelector('#work').hidden")
+        self.browser.mouse("mouseMoved", 5, 5)
+        self.browser.value("document.activeElement.blur(); scrollTo(0, 0)")
+        self.shot("page")
+
     def test_nothing_is_wider_than_the_page(self) -> None:
         for width in (400, 1280):
             self.browser.size(width, 800)

@@ -81,6 +81,22 @@ class Stored(PageCase):
         self.assertNotIn("is kept", self.go("as it was opened"))
         self.assertEqual(self.edits(), [])
 
+    def test_what_is_compared_with_stays_after_a_reload(self) -> None:
+        """Also if there are no edits; a past that is gone is compared with no longer."""
+        self.type_line("disk 0 101")
+        self.keep("one")
+        self.choose("one")
+        self.browser.click("#undo")
+        self.wait_text("#difference", "Drive 0")
+        self.wait_still()
+        chosen = "document.querySelector('#compared-with').selectedOptions[0].text"
+        for name in ("one", "as it was opened"):
+            self.browser.reload()
+            self.wait_still()
+            self.assertEqual(self.browser.value(chosen), name)
+            self.browser.value(CLEAR)
+        self.assertEqual(self.browser.text("#legend-old"), "before your edits")
+
     def test_a_past_is_forgotten(self) -> None:
         self.type_line("disk 0 101")
         self.keep("one")
@@ -88,6 +104,7 @@ class Stored(PageCase):
         self.browser.click("#past-forget")
         self.wait_text("#reply", "Forgotten: one.")
         self.assertEqual(self.names(), ["as it was opened"])
+        self.assertEqual(self.browser.value("document.activeElement.id"), "compared-with")
         self.assertTrue(self.browser.value("document.querySelector('#past-forget').disabled"))
         self.browser.open(self.address)
         self.assertEqual(self.names(), ["as it was opened"])
