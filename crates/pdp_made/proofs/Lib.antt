@@ -1,0 +1,15 @@
+pub mod Halves
+pub mod Registers
+pub mod Frames
+pub mod Readings
+pub mod Writings
+pub mod References
+pub mod OperandSteps
+pub mod EffectSteps
+pub mod InstructionSteps
+pub mod ExtendedSteps
+pub mod TrapSteps
+pub mod ActionRows
+pub mod Through
+pub mod Courses
+pub mod Example
