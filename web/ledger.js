@@ -20,6 +20,9 @@ import { LAST_TURN } from "./replies.js";
  * @typedef {{change: Edit[], place: number}} Off
  */
 
+// The last number that the program can give to an event.
+const LAST_NUMBER = 4_294_967_295;
+
 /** An edit in which the number of an event is another one, if it names this one.
     @param {string} line @param {string} number @param {string} given */
 export const renumbered = (line, number, given) => line.replace(/^(alter|drop) (\d+)/,
@@ -109,11 +112,25 @@ export class Ledger {
     taken.length = Math.min(taken.length, tried.before);
   }
 
+  /** All that the user did: what is in the past, what was undone, and what is off. */
+  get edits() {
+    return [...this.changes, ...this.undone, ...this.off.map(it => it.change)].flat();
+  }
+
+  /** The program gives an event this number. What isn't in the past, and had it, gets another one,
+      which the program gives to none.
+      @param {string} number */
+  give(number) {
+    /** @param {Edit} edit */
+    const numberIn = ({ line, event }) => Number(event ?? /^(?:alter|drop) (\d+)/.exec(line)?.[1]);
+    const last = this.edits.reduce((most, it) => Math.max(most, numberIn(it) || 0), LAST_NUMBER);
+    this.renumber(number, String(last + 1));
+  }
+
   /** An event that comes back has a new number: edits to be undone or made again name that one.
       @param {string} number @param {string} given */
   renumber(number, given) {
-    const off = this.off.map(it => it.change);
-    for (const edit of [...this.changes, ...this.undone, ...off].flat()) {
+    for (const edit of this.edits) {
       edit.line = renumbered(edit.line, number, given);
       edit.back = edit.back?.map(it => renumbered(it, number, given)) ?? null;
       if (edit.event === number) edit.event = given;

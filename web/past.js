@@ -110,11 +110,10 @@ export class Past {
     if (word === "core" || word === "disk") return this.inverseOfPatch(word, rest.slice(0, -1));
     if (word === "uncore") return this.inverseOfPatch("core", rest);
     if (word === "delay") return [`delay ${rest[0]} ${this.delays[rest[0]]}`];
-    if (word === "drop" || word === "alter") return this.inverseOfEvent(Number(rest[0]), word);
-    return null;
+    return word === "alter" ? this.inverseOfMove(Number(rest[0])) : null;
   }
 
-  /** A disk's word without a patch has its image's value, which isn't known here.
+  /** A patch of a disk that takes the place of none isn't taken back by a line.
       @param {string} kind @param {string[]} where */
   inverseOfPatch(kind, where) {
     const name = [kind, ...where.map(it => parseInt(it, 8).toString(8))].join(" ");
@@ -124,19 +123,17 @@ export class Past {
   }
 
   /** The event as it was, and after it those that came after it in the same turn.
-      @param {number} number @param {string} word */
-  inverseOfEvent(number, word) {
+      @param {number} number */
+  inverseOfMove(number) {
     const event = this.events.get(number);
     if (!event) return null;
-    const back = word === "drop" ? `at ${event.turn} ${event.text}`
-      : `alter ${number} ${event.turn} ${event.text}`;
     const ofTurn = eventsIn(this.script, event.turn, event.turn);
     const later = ofTurn.slice(ofTurn.indexOf(event) + 1);
     /** @param {ScriptEvent} it */
     const away = it => `alter ${it.number} ${Math.abs(it.turn - 1)} ${it.text}`;
     /** @param {ScriptEvent} it */
     const again = it => `alter ${it.number} ${it.turn} ${it.text}`;
-    return [back, ...later.flatMap(it => [away(it), again(it)])];
+    return [again(event), ...later.flatMap(it => [away(it), again(it)])];
   }
 
   /** The lines of the patches that make the setup of another past this one, or null if it takes

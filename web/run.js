@@ -8,7 +8,7 @@ import {
   askedAtOnce, byteAsked, earlyQuestion, isSearch, searchOf, turnsAsked,
 } from "./questions.js";
 import { Reached } from "./reached.js";
-import { LAST_TURN, eventOf, isRefused, mustBeTaken, octal, wordsOf } from "./replies.js";
+import { LAST_TURN, eventOf, isRefused, mustBeTaken } from "./replies.js";
 
 // A part is what is asked at once. It runs about so many turns: fewer if parts take long.
 const [FEWEST_TURNS, FIRST_TURNS, MOST_TURNS] = [100_000, 1_000_000, 4_000_000];
@@ -378,24 +378,13 @@ export class Run {
    * @param {string} line @returns {Promise<{reply: string, edit: Edit | null}>}
    */
   async make(line) {
-    const before = this.ledger.taken.length;
-    const back = await this.inverse(line);
+    const before = this.ledger.taken.length, isAt = wordsOfLine(line)[0] === "at";
+    const back = isAt ? null : (await this.askPast()).inverse(line);
     const reply = await this.askOne(line, Priority.EDIT);
     if (isRefused(reply)) return { reply, edit: null };
-    const event = wordsOfLine(line)[0] === "at" ? String(eventOf(reply)) : undefined;
+    const event = isAt ? String(eventOf(reply)) : undefined;
+    if (event) this.ledger.give(event);
     return { reply, edit: { line, back: event ? [`drop ${event}`] : back, event, before } };
-  }
-
-  /** The lines that take back an edit, asked before it is made; null if there are none.
-      @param {string} line @returns {Promise<string[] | null>} */
-  async inverse(line) {
-    // an event that is made is dropped
-    if (wordsOfLine(line)[0] === "at") return null;
-    const lines = (await this.askPast()).inverse(line);
-    if (lines || wordsOfLine(line)[0] !== "disk") return lines;
-    const where = wordsOfLine(line).slice(1, -1).join(" ");
-    const reply = await this.askOne(`dsk 0 ${where} 1`, Priority.EDIT);
-    return isRefused(reply) ? null : [`disk ${where} ${octal(wordsOf(reply)[0])}`];
   }
 
   /** Takes back what the user did last. If this is stopped, the rest of it stays done. */
@@ -417,24 +406,19 @@ export class Run {
   /** An edit that no line takes back needs the machine anew, with the edits before it.
       @param {Edit} edit */
   async takeBack(edit) {
-    if (!edit.back) {
-      this.ledger.taken.length = edit.before;
-      await this.startAgain();
+    if (edit.back) {
+      (await this.askEdits(edit.back)).forEach(mustBeTaken);
       return;
     }
-    const [word, number] = wordsOfLine(edit.line);
-    for (const line of edit.back) {
-      const reply = mustBeTaken(await this.askOne(line, Priority.EDIT));
-      const isBack = word === "drop" && wordsOfLine(line)[0] === "at";
-      if (isBack) this.ledger.renumber(number, String(eventOf(reply)));
-    }
+    this.ledger.taken.length = edit.before;
+    await this.startAgain();
   }
 
-  /** Does again what was undone last. If this is stopped, the rest of it stays undone. */
+  /** Does again what was undone last. If this is stopped, the rest of it stays undone. Returns the
+      edits of it that are refused. */
   async redo() {
     await this.putBack();
-    const { changes, undone } = this.ledger, wanted = undone.at(-1);
-    if (!wanted) return;
+    const { changes, undone } = this.ledger, wanted = undone.at(-1) ?? [], all = [...wanted];
     /** @type {Edit[]} */
     const change = [];
     changes.push(change);
@@ -452,6 +436,8 @@ export class Run {
     }
     undone.pop();
     if (!change.length) changes.pop();
+    const made = new Set(change.map(it => it.line));
+    return all.filter(it => !made.has(it.line));
   }
 
   /** Ends the questions that the machine is at. Edits go on: they run nothing. */
