@@ -16,6 +16,8 @@ const [QUICK, SLOW] = [25, 80];
 // What a line takes beside its turns, as turns.
 const TURNS_OF_A_LINE = 10_000;
 const [MOST_LINES, MOST_EDITS] = [512, 4_096];
+// So many turns a function of the disk may have begun before it ended, at first.
+const FIRST_BACK = 64;
 
 /** Of several questions the one with the lowest number goes first. */
 export const Priority = { EDIT: 0, CURSOR: 1, QUESTION: 2, PICTURE: 3, TEXT: 4, COMPARISON: 5 };
@@ -214,6 +216,20 @@ export class Run {
     return [Math.max(from, checkpoint < end ? checkpoint : turn), end];
   }
 
+  /** The reply about a part. The first function of the disk in it may have begun before the part:
+      it gets the turn in which it did.
+      @param {string} reply @param {Search} search */
+  async withBegin(reply, { begin, from }) {
+    const [, turn] = /^transfers .*\n(\d+) before /.exec(reply) ?? [], end = Number(turn) + 1;
+    for (let first = from, back = FIRST_BACK; turn && first > begin; back *= 2) {
+      first = Math.max(begin, end - back);
+      const [longer] = await this.send([`transfers ${first} ${end}`]);
+      const [found] = new RegExp(`^${turn} \\d.*`, "m").exec(longer) ?? [];
+      if (found) return reply.replace(/(?<=\n).*/, found);
+    }
+    return reply;
+  }
+
   /** Searches some turns more.
       @param {Job} job @param {string} line */
   async searchOn(job, line) {
@@ -221,7 +237,8 @@ export class Run {
     if (!search) return;
     const [from, to] = this.partOf(search);
     this.showTurns(line, search, from);
-    const [reply] = await this.timed([search.line(from, to)], to - from);
+    const [asked] = await this.timed([search.line(from, to)], to - from);
+    const reply = await this.withBegin(asked, search);
     if (search.isBackwards) search.end = from;
     else search.from = to;
     const whole = search.add(reply, search.from === search.end);

@@ -109,6 +109,25 @@ class TheSweep(PageCase):
         self.assertEqual(self.edits(), ["alter 15 126830 key 66"])
         self.assertIn("126820", self.browser.text("#outcomes"))
 
+    def test_an_event_is_not_moved_in_its_own_turn(self) -> None:
+        """There it comes before the other of its turn: the machine has the second key's byte."""
+        path = self.folder() / "two.session"
+        path.write_text("at 5 key 101\nat 5 key 102\nregs 8\n")
+        self.give(path)
+        self.fill("#sweep-event", "1")
+        self.fill("#sweep-question", "devices 8")
+        self.sweep(4, 6)
+        self.wait_text("#sweep-status", "3 of 3 turns")
+        rows = self.browser.value(
+            "[...document.querySelectorAll('#outcomes tbody tr')].map(it => it.innerText)"
+        )
+        lines = ["at 5 key 101", "at 5 key 102", "devices 8", "alter 1 6 key 101", "devices 8"]
+        *_, unmoved, _, later = replies_of(lines)
+        self.assertIn("TKB 000102", unmoved)
+        self.assertIn("TKB 000101", later)
+        turns = [it.split("\t")[1] for it in rows]
+        self.assertEqual(turns, ["4 to 5", "6 to 6"])
+
     def test_it_can_be_stopped(self) -> None:
         self.sweep(100_000, 119_000)
         self.wait_text("#sweep-status", " of 19001 turns: tried so far")
