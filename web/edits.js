@@ -262,12 +262,20 @@ export class Edits {
     return Boolean(opened?.run.ledger.changes.length) && this.sum() !== this.saved;
   }
 
+  /** An edit that the past takes: a move of the story's event to where it is safe, or of another. */
+  example() {
+    const { session: { run: { past } }, view: { timeline: { target } } } = this.app;
+    const event = past.events.get(target?.event ?? 0) ?? past.script[0];
+    return event ? moveOf(event, target?.from ?? Math.abs(event.turn - 1)) : "at 1000 key 101";
+  }
+
   /** Shows what the user did, and keeps it. */
   show() {
     const { contents, run: { ledger } } = this.app.session;
     element("edits-kept").hidden = keepEdits(contents, this.kept());
     this.showItems(itemsOfLedger(ledger).map(({ change, isOn }) =>
       (isOn ? "" : OFF) + change.map(edit => edit.line).join("\n")));
+    field("line").placeholder = this.example();
     // (what is disabled would lose the focus)
     element("undo").ariaDisabled = String(!ledger.changes.length);
     element("redo").ariaDisabled = String(!ledger.undone.length);

@@ -209,6 +209,20 @@ class Happened(PageCase):
             ],
         )
 
+    def test_the_heading_goes_with_them(self) -> None:
+        is_hidden = "document.querySelector('#happened').hidden"
+        self.steps()
+        self.assertFalse(self.browser.value(is_hidden))
+        self.browser.value("document.querySelector('#terminal').focus()")
+        self.browser.key("Enter")
+        self.wait_text("#terminal-status", "before turn ")
+        self.browser.type("1")
+        self.browser.wait("document.querySelectorAll('#edits li').length")
+        self.browser.wait(is_hidden)
+        self.browser.key("Tab")
+        self.wait_still()
+        self.assertTrue(self.browser.value(is_hidden))
+
     def test_a_step_is_a_place(self) -> None:
         turn = int(self.steps()[1].split()[-1])
         self.browser.click("#steps li:nth-child(2) .link")

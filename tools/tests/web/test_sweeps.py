@@ -51,6 +51,24 @@ class TheConsole(PageCase):
         self.browser.wait("document.querySelectorAll('#edits code').length === 3")
         self.wait_still()
 
+    def test_what_is_told_while_keys_are_typed(self) -> None:
+        """An edit was made, which is compared later; no example names what isn't there."""
+        examples = "['line', 'find-what', 'inspect-from'].map(it => field(it).placeholder)"
+        examples = examples.replace("field(it)", "document.getElementById(it)")
+        self.assertEqual(self.browser.value(examples), ["at 1000 key 101", "1000", "1000"])
+        self.assertIn("Once you make an edit", self.browser.text("#difference"))
+        self.begin()
+        self.browser.type("h")
+        self.wait_text("#difference", "Once the console ends, this says what its keys changed.")
+        self.wait_text("#events-count", "1 event")
+        (line,) = self.lines()
+        turn = int(line.split()[1])
+        self.assertEqual(self.browser.value(examples)[0], f"alter 1 {turn - 1} key 150")
+        self.assertIn("before the last edit", self.browser.text("#text-turn"))
+        self.browser.key("Tab")
+        self.wait_text("#difference", "The registers first differ before turn ")
+        self.wait_still()
+
     def test_it_runs_by_a_button_or_enter_while_it_has_the_focus(self) -> None:
         self.browser.value("document.querySelector('#speed').focus()")
         before = self.turn()
