@@ -235,7 +235,7 @@ export class Edits {
       while (run.ledger.undone.length) await run.redo();
       await run.askPast();
     });
-    return "The edits that this tab kept are made again: Undo takes them back.";
+    return "The edits that were kept are made again: Undo takes them back.";
   }
 
   /** The edits as they are kept.
