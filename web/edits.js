@@ -262,7 +262,7 @@ export class Edits {
     return Boolean(opened?.run.ledger.changes.length) && this.sum() !== this.saved;
   }
 
-  /** An edit that the past takes: a move of the story's event to where it is safe, or of another. */
+  /** An edit that the past takes, as an example: it moves the story's event to where it is safe. */
   example() {
     const { session: { run: { past } }, view: { timeline: { target } } } = this.app;
     const event = past.events.get(target?.event ?? 0) ?? past.script[0];

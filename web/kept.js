@@ -19,7 +19,7 @@ import { isEdit } from "./past.js";
  */
 
 /**
- * What a page that was saved showed: the sum of its session, edits, place, and words that are drawn.
+ * What a page that was saved showed: the sum of its session, the edits, the place, and the words.
  * @typedef {{sum: string, edits: KeptEdits, place: import("./place.js").Place,
  *   words: import("./names.js").WatchedWord[]}} Shown
  */

@@ -70,7 +70,8 @@ export class PageView {
     const options = document.querySelectorAll("option[data-mode]");
     for (const it of options) {
       const named = symbolsOfMode(symbols, it.dataset.mode ?? "").find(one => !one.isConstant);
-      it.dataset.example = named ? `${named.value.toString(8)} or ${visibleName(named.name)}` : "1000";
+      it.dataset.example = !named ? "1000"
+        : `${named.value.toString(8)} or ${visibleName(named.name)}`;
       it.parentElement?.dispatchEvent(new Event("change"));
     }
   }
