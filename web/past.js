@@ -103,26 +103,8 @@ export class Past {
     return Object.assign(new Past(), this, { tape }, ...parts);
   }
 
-  /** The lines that take back an edit, asked before the edit is made; null if none is known.
-      @param {string} line */
-  inverse(line) {
-    const [word, ...rest] = wordsOfLine(line);
-    if (word === "core" || word === "disk") return this.inverseOfPatch(word, rest.slice(0, -1));
-    if (word === "uncore") return this.inverseOfPatch("core", rest);
-    if (word === "delay") return [`delay ${rest[0]} ${this.delays[rest[0]]}`];
-    return word === "alter" ? this.inverseOfMove(Number(rest[0])) : null;
-  }
-
-  /** A patch of a disk that takes the place of none isn't taken back by a line.
-      @param {string} kind @param {string[]} where */
-  inverseOfPatch(kind, where) {
-    const name = [kind, ...where.map(it => parseInt(it, 8).toString(8))].join(" ");
-    const word = this.patches.get(name);
-    if (word !== undefined) return [[kind, ...where, word].join(" ")];
-    return kind === "core" ? [`uncore ${where[0]}`] : null;
-  }
-
-  /** The event as it was, and after it those that came after it in the same turn.
+  /** The lines that take back a move of an event, asked before that is made: the event as it was,
+      and after it those that came after it in the same turn. Null if there is no such event.
       @param {number} number */
   inverseOfMove(number) {
     const event = this.events.get(number);

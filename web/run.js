@@ -2,7 +2,7 @@
 
 import { Ledger } from "./ledger.js";
 import { Machine, Stopped } from "./machine.js";
-import { makePatches, patchesAhead, takeBackPatches } from "./patching.js";
+import { makePatches, patchesAhead } from "./patching.js";
 import { isEdit, runsNothing, wordsOfLine } from "./past.js";
 import {
   askedAtOnce, byteAsked, earlyQuestion, isSearch, searchOf, turnsAsked,
@@ -361,10 +361,10 @@ export class Run {
     return this.ask(asked, Priority.EDIT);
   }
 
-  /** Puts back what was tried. */
+  /** Puts back the event that was tried. */
   async putBack() {
     if (!this.ledger.tried) return;
-    await this.takeBack(this.ledger.tried);
+    (await this.askEdits(this.ledger.tried.back ?? [])).forEach(mustBeTaken);
     this.ledger.endTrial();
   }
 
@@ -395,40 +395,27 @@ export class Run {
    * @param {string} line @returns {Promise<{reply: string, edit: Edit | null}>}
    */
   async make(line) {
-    const before = this.ledger.taken.length, isAt = wordsOfLine(line)[0] === "at";
-    const back = isAt ? null : (await this.askPast()).inverse(line);
+    const before = this.ledger.taken.length, [word, number] = wordsOfLine(line);
+    const moved = word === "alter" ? (await this.askPast()).inverseOfMove(Number(number)) : null;
     const reply = await this.askOne(line, Priority.EDIT);
     if (isRefused(reply)) return { reply, edit: null };
-    const event = isAt ? String(eventOf(reply)) : undefined;
+    const event = word === "at" ? String(eventOf(reply)) : undefined;
     if (event) this.ledger.give(event);
-    return { reply, edit: { line, back: event ? [`drop ${event}`] : back, event, before } };
+    return { reply, edit: { line, back: event ? [`drop ${event}`] : moved, event, before } };
   }
 
-  /** Takes back what the user did last. If this is stopped, the rest of it stays done. */
-  async undo() {
+  /** Takes back what the user did, from a place on: if none is given, what was done last. If no
+      line takes back one of the edits, the machine begins anew with those before them: so an event
+      that was taken out has its number again.
+      @param {number} [place] */
+  async undo(place = Math.max(0, this.ledger.changes.length - 1)) {
     await this.putBack();
-    const { changes, undone } = this.ledger, change = changes.at(-1);
-    if (!change) return;
-    /** @type {Edit[]} */
-    const taken = [];
-    undone.push(taken);
-    for (let edit = change.at(-1); edit; edit = change.at(-1)) {
-      const patches = await takeBackPatches(this, change);
-      if (!patches) await this.takeBack(edit);
-      taken.unshift(...change.splice(-Math.max(1, patches)));
-    }
-    changes.pop();
-  }
-
-  /** An edit that no line takes back needs the machine anew, with the edits before it.
-      @param {Edit} edit */
-  async takeBack(edit) {
-    if (edit.back) {
-      (await this.askEdits(edit.back)).forEach(mustBeTaken);
-      return;
-    }
-    this.ledger.taken.length = edit.before;
-    await this.startAgain();
+    const { changes, undone } = this.ledger, edits = changes.slice(place).flat().reverse();
+    if (edits.some(it => !it.back)) {
+      this.ledger.taken.length = edits[edits.length - 1].before;
+      await this.startAgain();
+    } else (await this.askEdits(edits.flatMap(it => it.back ?? []))).forEach(mustBeTaken);
+    undone.push(...changes.splice(place).reverse());
   }
 
   /** Does again what was undone last. If this is stopped, the rest of it stays undone. Returns the

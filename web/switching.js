@@ -39,7 +39,7 @@ export async function switchItem(run, index) {
   /** @type {string[]} */
   const refused = [];
   ledger.undone = [];
-  while (ledger.changes.length > switched.place) await run.undo();
+  await run.undo(switched.place);
   // events get new numbers below: what is off is named by these too
   /** @type {Off[]} */
   const others = items.filter(it => !it.isOn && it !== switched);

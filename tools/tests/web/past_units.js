@@ -41,16 +41,10 @@ export function test_only_what_is_told_anew_changes() {
   equal([past.lines(), before.script.length], [["delay disk 200", "core 1000 5"], 2]);
 }
 
-export function test_inverses() {
+export function test_a_move_is_taken_back_by_lines() {
   const past = pastOf(MOVED);
-  equal(past.inverse("core 01000 7"), ["core 01000 5"]);
-  equal(past.inverse("core 2000 7"), ["uncore 2000"]);
-  equal(past.inverse("uncore 1000"), ["core 1000 5"]);
-  equal(past.inverse("delay disk 3"), ["delay disk 200"]);
-  equal(past.inverse("alter 1 8 key 66"),
-    ["alter 1 9 key 66", "alter 2 8 tick", "alter 2 9 tick"]);
-  equal(["disk 010 4", "disk 7 4", "tape 1", "drop 2"].map(it =>
-    pastOf({ patches: ["disk 0000010 000003"] }).inverse(it)), [["disk 010 3"], null, null, null]);
+  equal(past.inverseOfMove(1), ["alter 1 9 key 66", "alter 2 8 tick", "alter 2 9 tick"]);
+  equal([past.inverseOfMove(2), past.inverseOfMove(3)], [["alter 2 9 tick"], null]);
 }
 
 /** The events of a turn are in their order again. */

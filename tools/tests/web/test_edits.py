@@ -159,7 +159,7 @@ class Lines(PageCase):
         self.assertIn("dsk 000170", said)
 
     def test_all_edits_are_undone_and_made_again(self) -> None:
-        """Events that come back have other numbers. No line takes a tape back."""
+        """No line takes back a tape, or an event that was taken out."""
         count = "document.querySelectorAll('#edits li').length === {}"
         first = self.browser.text("#text")
         number = self.type_line("at 5 key 101").split()[-1]
