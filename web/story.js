@@ -55,8 +55,7 @@ export const balancesIn = text =>
 /** Which way the event is to be moved on from a turn: in a word, and as a part of a sentence.
     @param {number | null} turn @param {Range | null} target */
 function wayFrom(turn, target) {
-  const right = "to the right";
-  if (target && turn !== null && turn < target.from) return [right, `move the key ${right}`];
+  if (target && turn !== null && turn < target.from) return ["to the right", "move the key right"];
   if (target && turn !== null && turn > target.to) return ["too far", "too far, go back"];
   return ["lost", "try another turn"];
 }
@@ -81,6 +80,7 @@ export function verdictOf(text, { isMoved, turn = null, target = null, hasOthers
   const missing = STORY.evening - parseInt(balances[STORY.balances - 1], 8);
   const later = balance === STORY.wanted ? "" : ": the rest came later";
   if (!missing) return found(`\u2713 nothing is lost${later}`, "good", "nothing is lost");
-  const [word, again] = isMoved ? wayFrom(turn, target) : ["", "this one should be 145"];
-  return found(`\u2717 the last balance lacks ${missing.toString(8)}; ${again}`, "bad", word);
+  const lost = missing.toString(8), [word, again] = wayFrom(turn, target);
+  if (!isMoved) return found(`\u2717 a deposit of ${lost} is lost; it should be 145`, "bad", "");
+  return found(`\u2717 the last balance lacks ${lost}; ${again}`, "bad", word);
 }

@@ -225,7 +225,7 @@ class Lines(PageCase):
     def test_an_event_that_was_taken_out_is_the_same_again(self) -> None:
         """With its number the story has its steps, its target, and what it says of the balance."""
         def shown() -> list[str]:
-            self.wait_text("#verdict", "the last balance lacks 6")
+            self.wait_text("#verdict", "a deposit of 6 is lost; it should be 145")
             self.browser.wait("document.querySelectorAll('#steps li').length === 4")
             self.wait_still()
             texts = "['events', 'steps', 'verdict', 'difference'].map(it => find(it).textContent)"

@@ -14,7 +14,7 @@ WORKS = (None, "0 of 1 edits", "999999999 of 1000000000 turns")
 VERDICTS = (
     "",
     "\u2713 nothing is lost: the rest came later",
-    "\u2717 the last balance lacks 16; move the key to the right",
+    "\u2717 the last balance lacks 16; move the key right",
 )
 # Where the button that stops the work is, and the timeline, whatever of these is shown.
 PLACES = """((works, verdicts) => {

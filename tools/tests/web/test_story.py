@@ -143,7 +143,7 @@ class Carried(PageCase):
         """Moved past the fourth `=` the deposit is in the fifth balance. Of two deposits that are
         lost both are told, also if the fourth balance is as it should be."""
         safe = story()
-        right, far = "lacks 6; move the key to the right", "too far, go back"
+        right, far = "lacks 6; move the key right", "too far, go back"
         for line, said in (
             (f"alter 15 {safe['from'] - 1} key 66", right),
             (f"alter 15 {KEY_TURN - 60} key 66", right),

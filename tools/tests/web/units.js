@@ -169,7 +169,7 @@ export function test_the_balances() {
   const safe = text.replace("137", "145"), later = text.replace("170", "176");
   equal([told(text, { isMoved: false }), told(safe), told(later.replace("137", "145")), told(later),
     told(later, { isMoved, hasOthers: true }), told(later.slice(0, -9)), told("=000100")],
-  ["137 \u2717 the last balance lacks 6; this one should be 145 bad",
+  ["137 \u2717 a deposit of 6 is lost; it should be 145 bad",
     "145 \u2717 the last balance lacks 6; try another turn bad", "145 \u2713 nothing is lost good",
     "137 \u2713 nothing is lost: the rest came later good",
     "137 not of the same day: see the edits", "137 the last balance isn't printed",
@@ -177,7 +177,7 @@ export function test_the_balances() {
   const target = { from: 100, to: 200 };
   const ways = [99, 100, 200, 201].map(turn => verdictOf(text, { isMoved, turn, target }).verdict);
   equal(ways.map(it => it.split("; ")[1]),
-    ["move the key to the right", "try another turn", "try another turn", "too far, go back"]);
+    ["move the key right", "try another turn", "try another turn", "too far, go back"]);
 }
 
 export function test_words_are_named_by_comments() {
