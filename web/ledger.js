@@ -28,6 +28,11 @@ const LAST_NUMBER = 4_294_967_295;
 export const renumbered = (line, number, given) => line.replace(/^(alter|drop) (\d+)/,
   (all, verb, named) => named === number ? `${verb} ${given}` : all);
 
+/** The number of the event that an edit makes or names, or 0.
+    @param {Edit} edit */
+const numberIn = ({ line, event }) =>
+  Number(event ?? /^(?:alter|drop) (\d+)/.exec(line)?.[1] ?? 0);
+
 export class Ledger {
   constructor() {
     /** @type {Taken[]} every edit that the program took; a machine adds those that it takes */
@@ -90,6 +95,7 @@ export class Ledger {
       @param {Edit} edit @param {boolean} joins */
   add(edit, joins) {
     this.undone = [];
+    if (edit.event) this.give(edit.event);
     const last = this.changes.at(-1);
     if (joins && last) last.push(edit);
     else this.changes.push([edit]);
@@ -117,17 +123,17 @@ export class Ledger {
     return [...this.changes, ...this.undone, ...this.off.map(it => it.change)].flat();
   }
 
-  /** The program gives an event this number. What isn't in the past, and had it, gets another one,
-      which the program gives to none.
+  /** The program gives an event this number. What isn't in the past, and named it so, gets another
+      one, which the program gives to none.
       @param {string} number */
   give(number) {
-    /** @param {Edit} edit */
-    const numberIn = ({ line, event }) => Number(event ?? /^(?:alter|drop) (\d+)/.exec(line)?.[1]);
-    const last = this.edits.reduce((most, it) => Math.max(most, numberIn(it) || 0), LAST_NUMBER);
+    const { edits } = this, names = new RegExp(`^(alter|drop) ${number}\\b`);
+    if (!edits.some(it => it.event === number || names.test(it.line))) return;
+    const last = edits.reduce((most, it) => Math.max(most, numberIn(it)), LAST_NUMBER);
     this.renumber(number, String(last + 1));
   }
 
-  /** An event that comes back has a new number: edits to be undone or made again name that one.
+  /** An event that is made again has a new number: edits to be undone or made again name that one.
       @param {string} number @param {string} given */
   renumber(number, given) {
     for (const edit of this.edits) {

@@ -400,7 +400,6 @@ export class Run {
     const reply = await this.askOne(line, Priority.EDIT);
     if (isRefused(reply)) return { reply, edit: null };
     const event = word === "at" ? String(eventOf(reply)) : undefined;
-    if (event) this.ledger.give(event);
     return { reply, edit: { line, back: event ? [`drop ${event}`] : moved, event, before } };
   }
 
@@ -434,9 +433,12 @@ export class Run {
         continue;
       }
       const { edit } = await this.make(wanted[0].line), { event } = wanted[0];
+      if (event && edit?.event && event !== edit.event) {
+        this.ledger.give(edit.event);
+        this.ledger.renumber(event, edit.event);
+      }
       wanted.shift();
       if (edit) change.push(edit);
-      if (edit?.event && event) this.ledger.renumber(event, edit.event);
     }
     undone.pop();
     if (!change.length) changes.pop();
