@@ -272,10 +272,10 @@ export class Edits {
   /** Shows what the user did, and keeps it. */
   show() {
     const { contents, run: { ledger } } = this.app.session;
+    field("line").placeholder = this.example();
     element("edits-kept").hidden = keepEdits(contents, this.kept());
     this.showItems(itemsOfLedger(ledger).map(({ change, isOn }) =>
       (isOn ? "" : OFF) + change.map(edit => edit.line).join("\n")));
-    field("line").placeholder = this.example();
     // (what is disabled would lose the focus)
     element("undo").ariaDisabled = String(!ledger.changes.length);
     element("redo").ariaDisabled = String(!ledger.undone.length);

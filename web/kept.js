@@ -19,9 +19,10 @@ import { isEdit } from "./past.js";
  */
 
 /**
- * What a page that was saved showed: the sum of its session, the edits, the place, and the words.
+ * What a page that was saved showed: the sum of its session, the edits, the place, the words, and
+ * the pasts with names.
  * @typedef {{sum: string, edits: KeptEdits, place: import("./place.js").Place,
- *   words: import("./names.js").WatchedWord[]}} Shown
+ *   words: import("./names.js").WatchedWord[], pasts: import("./stored.js").StoredPast[]}} Shown
  */
 
 /**
@@ -73,8 +74,8 @@ export function shownOf(session) {
   return shown?.sum === sumOfSession(session) ? shown : null;
 }
 
-// A saved page keeps edits of its own: of none too, since it has some.
-const ofPage = packedShown() ? ` ${sumOf([JSON.stringify(packedShown())])}` : "";
+// A saved page keeps edits and pasts of its own: of none too, since it has some.
+export const ofPage = packedShown() ? ` ${sumOf([JSON.stringify(packedShown())])}` : "";
 
 /** @param {Session} session */
 const keyOfEdits = session => `nezdrab edits ${sumOfSession(session)}${ofPage}`;

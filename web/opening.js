@@ -13,6 +13,7 @@ import { pageWith } from "./packed.js";
 import { element } from "./page.js";
 import { showRefused } from "./refused.js";
 import { visibleName } from "./replies.js";
+import { storedPasts } from "./stored.js";
 
 /**
  * @typedef {import("./session.js").Session} Session
@@ -152,7 +153,7 @@ export class Opening {
       await run.askPast();
       const page = await pageWith(contents, { sum: sumOfSession(contents),
         edits: { ...app.edits.kept(), saved: app.edits.sum() }, place: app.view.place(),
-        words: app.watched.words });
+        words: app.watched.words, pasts: storedPasts(contents) });
       saveFile(savedName(contents, ".html"), page, "text/html");
       app.edits.noteSaved();
       app.say("Saved: one file with all in it.");

@@ -2,12 +2,12 @@
 // when they move.
 
 import { Minimap } from "./minimap.js";
+import { showExamples } from "./names.js";
 import { delayed, element, field } from "./page.js";
 import { Path } from "./path.js";
 import { keepPlace } from "./place.js";
-import { registersOf, visibleName } from "./replies.js";
+import { registersOf } from "./replies.js";
 import { Priority } from "./run.js";
-import { symbolsOfMode } from "./session.js";
 import { Sight } from "./sight.js";
 import { STORY } from "./story.js";
 import { Timeline } from "./timeline.js";
@@ -60,20 +60,7 @@ export class PageView {
     const { symbols, end } = this.app.session;
     this.timeline.symbols = symbols;
     this.timeline.whole = end;
-    this.showExamples(symbols);
-  }
-
-  /** The forms that take an address have one of the session as an example, by its name too.
-      @param {import("./session.js").Symbols} symbols */
-  showExamples(symbols) {
-    /** @type {NodeListOf<HTMLElement>} */
-    const options = document.querySelectorAll("option[data-mode]");
-    for (const it of options) {
-      const named = symbolsOfMode(symbols, it.dataset.mode ?? "").find(one => !one.isConstant);
-      it.dataset.example = !named ? "1000"
-        : `${named.value.toString(8)} or ${visibleName(named.name)}`;
-      it.parentElement?.dispatchEvent(new Event("change"));
-    }
+    showExamples(symbols);
   }
 
   pastChanged() {

@@ -91,7 +91,13 @@ class Files(FilesCase):
             self.assertEqual(self.type_line(line), f"{line}: {reply}")
 
     def test_a_saved_page_shows_what_was_shown(self) -> None:
-        """Its edits, on and off, the old past, words that are drawn, and the cursor's turn."""
+        """Its edits, on and off, pasts, words that are drawn, and the cursor's turn."""
+        self.addCleanup(self.browser.value, "localStorage.clear()")
+        self.type_line("alter 15 127000 key 66")
+        self.fill("#keep-name", "early")
+        self.browser.key("Enter")
+        self.wait_text("#reply", "Kept as early")
+        self.browser.click("#undo")
         for line in ("alter 15 127165 key 66", "drop 3", "at 230000 key 75"):
             self.type_line(line)
         self.browser.click("#edits li:nth-child(2) input")
@@ -125,7 +131,7 @@ class Files(FilesCase):
         self.wait_still()
         texts = self.browser.value(
             "['edits', 'words', 'text', 'difference', 'registers', 'verdict', 'story', 'steps',"
-            "'events-count'].map(it => document.getElementById(it).textContent)"
+            "'events-count', 'compared-with'].map(it => document.getElementById(it).textContent)"
         )
         ghosts = "[...document.querySelectorAll('.mark.ghost')].map(it => it.textContent).join()"
         turn = self.browser.value("document.querySelector('#turn').value")
