@@ -341,6 +341,8 @@ export class Run {
   /** An edit was taken: what is known of the turns that it may change no longer holds.
       @param {string} line */
   take(line) {
+    // lines about a drive have another form from now on
+    if (wordsOfLine(line)[0] === "version") this.giveUp();
     this.reached.forgetFrom(this.ledger.note(line));
   }
 
@@ -446,13 +448,18 @@ export class Run {
     return all.filter(it => !made.has(it.line));
   }
 
-  /** Ends the questions that the machine is at. Edits go on: they run nothing. */
-  stop() {
+  /** Gives up what is asked. Edits go on: they run nothing. */
+  giveUp() {
     for (const job of this.jobs) {
       if (this.goesOn(job)) continue;
       this.remove(job);
       job.reject(new Stopped());
     }
+  }
+
+  /** Ends the questions that the machine is at. */
+  stop() {
+    this.giveUp();
     this.reached = new Reached();
     this.machine.stop();
   }

@@ -79,6 +79,14 @@ export async function test_no_edit_is_lost_by_undo_and_redo() {
   equal([await switchItem(run, 0), await numbers()], [[], [1, 3]]);
 }
 
+/** A question about a drive that waits would be refused in version 2. */
+export async function test_what_waits_is_given_up_as_the_version_changes() {
+  const run = new NotingRun({}), edit = run.askEdits(["version 2"]);
+  const found = run.ask(["dsk 5 0 1"]).catch(error => error.message);
+  equal([await edit, await found, run.machine.lines],
+    [["version 2"], "the question was stopped", ["version 2"]]);
+}
+
 /** What is refused is told, and no edit names an event that another one made. */
 export async function test_events_that_are_off_keep_numbers_of_their_own() {
   const run = new NotingRun({});
