@@ -105,6 +105,11 @@ class Files(FilesCase):
         self.fill("#watch", "2000")
         self.browser.key("Enter")
         self.wait_text("#words", "QUEUE (core 002000)")
+        self.browser.value(
+            "(it => { it.selectedIndex = 1; it.dispatchEvent(new Event('change')); })"
+            "(document.querySelector('#compared-with'))"
+        )
+        self.wait_text("#legend-old", "in early")
         self.fill("#turn", "127000")
         self.browser.key("Enter")
         shown = self.shown()
@@ -131,7 +136,8 @@ class Files(FilesCase):
         self.wait_still()
         texts = self.browser.value(
             "['edits', 'words', 'text', 'difference', 'registers', 'verdict', 'story', 'steps',"
-            "'events-count', 'compared-with'].map(it => document.getElementById(it).textContent)"
+            "'events-count', 'compared-with', 'legend-old']"
+            ".map(it => document.getElementById(it).textContent)"
         )
         ghosts = "[...document.querySelectorAll('.mark.ghost')].map(it => it.textContent).join()"
         turn = self.browser.value("document.querySelector('#turn').value")
