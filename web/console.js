@@ -154,10 +154,21 @@ export class Console {
     const line = `at ${running.turn} key ${byte.toString(8)}`;
     const reply = await app.edits.make(line, running.isInLine);
     running.isInLine = byte !== KEYS.get("Enter");
-    app.edits.show();
+    this.tellKey();
     app.say(`${line}: ${reply}`);
     this.keepPast();
     return true;
+  }
+
+  /** A key has made another past. What takes long to ask is told once the console ends. */
+  tellKey() {
+    const { app } = this;
+    for (const it of [app.edits, app.events, app.sweep, app.linking]) it.pastChanged();
+    app.text.isOld();
+    app.happened.show([]);
+    app.pasts.differences.showLater();
+    app.pictures.say("The lanes are those before the keys that you typed.");
+    for (const kind of ["happened", "comparison", "picture"]) app.token(kind);
   }
 
   /** @param {Running} running */

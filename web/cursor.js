@@ -218,7 +218,7 @@ export class CursorPanels {
       return { ...it, mode, space, words: [], text: null };
     });
     await Promise.all(turns.filter(it => it.act === "instr").map(async it => {
-      it.words = await wordsAt(ask, it, it.pc, WORDS_OF_AN_INSTRUCTION);
+      it.words = await wordsRun(ask, it, it.pc, WORDS_OF_AN_INSTRUCTION);
     }));
     const fetched = turns.filter(it => it.words.length);
     const texts = await this.texts(fetched);
@@ -232,7 +232,7 @@ export class CursorPanels {
   /** @param {Ask} ask @param {TheMachine} machine @returns {Promise<Instruction[]>} */
   async nextInstructions(ask, machine) {
     const { registers: { mode, pc } } = machine;
-    const words = await wordsAt(ask, machine, pc, INSTRUCTIONS * WORDS_OF_AN_INSTRUCTION);
+    const words = await wordsRun(ask, machine, pc, INSTRUCTIONS * WORDS_OF_AN_INSTRUCTION);
     if (!words.length) return [{ mode, pc, text: "(can't be fetched)", symbol: "" }];
     const texts = await this.texts(words.map((_, at) => (
       { pc: pc + 2 * at & 0o177777, words: words.slice(at, at + WORDS_OF_AN_INSTRUCTION) })));
@@ -332,6 +332,21 @@ export async function wordsAt(ask, { turn, space }, address, count) {
   const unread = unreadOf(reply);
   if (unread !== null) return wordsAt(ask, { turn, space }, address, unread - address >> 1);
   return [...wordsOf(reply), ...await wordsAt(ask, { turn, space }, 0, count - most)];
+}
+
+/** The words from PC on, those of the turn's instruction as it read them: a transfer that ended in
+    the turn had already brought them.
+    @param {Ask} ask @param {{turn: number, space: Space}} machine @param {number} pc
+    @param {number} count */
+async function wordsRun(ask, machine, pc, count) {
+  const words = await wordsAt(ask, machine, pc, count);
+  const [reply] = await ask([`accesses ${machine.turn + 1} 1`]);
+  if (!/ instr\n(.*\n)*disk read /.test(reply)) return words;
+  const reads = [...reply.matchAll(/^read core (\d+) (\d+)$/gm)]
+    .map(([, place, word]) => [place, word].map(it => parseInt(it, 8)));
+  const [first] = reads[0] ?? [], ofPage = (0o20000 - pc % 0o20000) / 2;
+  return words.map((word, at) =>
+    reads.find(([place]) => place === first + 2 * at && at < ofPage)?.[1] ?? word);
 }
 
 /** The physical addresses of words at virtual ones, as far as they are core.

@@ -23,6 +23,11 @@ export class Differences {
       make("p", { class: "faint" }, "Once you make an edit, this says what it changed."));
   }
 
+  showLater() {
+    this.place.replaceChildren(
+      make("p", { class: "faint" }, "Once the console ends, this says what its keys changed."));
+  }
+
   showAtWork() {
     this.place.replaceChildren(atWork());
   }

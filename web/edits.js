@@ -11,8 +11,6 @@ import { itemsOf as itemsOfLedger, switchItem } from "./switching.js";
 const [MOST_REPLY, MOST_LINES] = [20_000, 256];
 // Stands before the text of what is switched off: no line begins with it.
 const OFF = "\n";
-// The program gives no event this number, or a larger one.
-const FIRST_FREE = 4_294_967_296;
 
 /**
  * A move of an event that isn't ended: the turns that are wanted and tried, each with its line.
@@ -183,9 +181,9 @@ export class Edits {
 
   redo() {
     return this.inTurn(async () => {
-      await this.app.session.run.redo();
+      const refused = (await this.app.session.run.redo()).map(it => it.line).join(", ");
       await this.app.changed();
-      this.app.say("made again");
+      this.app.say(refused ? `refused, so not made again: ${refused}` : "made again");
     });
   }
 
@@ -233,19 +231,11 @@ export class Edits {
       app.pasts.keepOld();
       app.view.reach(kept.end);
       run.ledger.off = (kept.off ?? []).map(it => ({ ...it, change: it.change.map(restored) }));
-      this.renumberOff();
       run.ledger.undone = kept.changes.map(it => it.map(restored)).reverse();
       while (run.ledger.undone.length) await run.redo();
       await run.askPast();
     });
-    return "The edits that this tab kept are made again: Undo takes them back.";
-  }
-
-  /** The events of what is switched off get numbers that none has: other ones may have theirs. */
-  renumberOff() {
-    const { ledger } = this.app.session.run;
-    const events = ledger.off.flatMap(it => it.change).flatMap(it => it.event ?? []);
-    events.forEach((it, at) => ledger.renumber(it, String(FIRST_FREE + at)));
+    return "The edits that were kept are made again: Undo takes them back.";
   }
 
   /** The edits as they are kept.
@@ -272,9 +262,17 @@ export class Edits {
     return Boolean(opened?.run.ledger.changes.length) && this.sum() !== this.saved;
   }
 
+  /** An edit that the past takes, as an example: it moves the story's event to where it is safe. */
+  example() {
+    const { session: { run: { past } }, view: { timeline: { target } } } = this.app;
+    const event = past.events.get(target?.event ?? 0) ?? past.script[0];
+    return event ? moveOf(event, target?.from ?? Math.abs(event.turn - 1)) : "at 1000 key 101";
+  }
+
   /** Shows what the user did, and keeps it. */
   show() {
     const { contents, run: { ledger } } = this.app.session;
+    field("line").placeholder = this.example();
     element("edits-kept").hidden = keepEdits(contents, this.kept());
     this.showItems(itemsOfLedger(ledger).map(({ change, isOn }) =>
       (isOn ? "" : OFF) + change.map(edit => edit.line).join("\n")));

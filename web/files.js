@@ -4,7 +4,6 @@ import { linesOfNames } from "./names.js";
 import {
   FileError, namesFile, optionLines, optionText, optionsOf, shellWords, wordsOfOptions,
 } from "./options.js";
-import { pageWith } from "./packed.js";
 import { kindOf, whyNot } from "./given.js";
 import { beginsAsTape } from "./kinds.js";
 import { loadedOf } from "./loading.js";
@@ -54,13 +53,6 @@ export function textOfPast(session, past, end) {
   const asked = [`regs ${end}`, `text ${end}`];
   const lines = [head, ...optionLines(session.arguments), ...linesOfNames(session)];
   return `${[...lines, ...past.lines(), ...asked].join("\n")}\n`;
-}
-
-/** The page as one file with the past and its files in it.
-    @param {Session} session @param {Past} past @param {number} end */
-export function pageOfPast(session, past, end) {
-  const lines = [...linesOfNames(session), ...past.lines(), `regs ${end}`];
-  return pageWith({ ...session, lines });
 }
 
 /** The files that were opened before and wait for others, and those that are opened now, unless

@@ -75,10 +75,9 @@ export class Happened {
 
   /** Asks what happened in the past as it is now. Until that is known, nothing is shown. */
   ask() {
-    const { app } = this, { run, end, isStory } = app.session, { timeline } = app.view;
+    const { app } = this, { run, end } = app.session, { timeline } = app.view;
     const token = app.token("happened");
-    element("happened").hidden = !isStory;
-    element("steps").replaceChildren();
+    this.show([]);
     if (!timeline.target) return;
     const { events } = run.past, { event, before } = STORY.safe;
     const first = Math.min(...[event, before].map(it => events.get(it)?.turn ?? 0));
@@ -89,6 +88,7 @@ export class Happened {
 
   /** @param {Step[]} steps */
   show(steps) {
+    element("happened").hidden = !steps.length;
     element("steps").replaceChildren(...steps.map(({ turn, text }) => make("li", {},
       link(text, `Go to turn ${turn}`, () => this.app.goTo(turn)),
       make("small", {}, ` turn ${turn}`))));

@@ -1,7 +1,9 @@
 // What the browser keeps for this tab until it is closed: the session that was opened in this page,
 // and the edits of each session, by a sum of its contents.
 
-import { packedSession, packedText, sessionOfText, textOfSession } from "./packed.js";
+import {
+  packedSession, packedShown, packedText, sessionOfText, textOfSession,
+} from "./packed.js";
 import { isEdit } from "./past.js";
 
 /**
@@ -14,6 +16,13 @@ import { isEdit } from "./past.js";
  * name of the past with which it is compared, if that isn't the session as it was opened.
  * @typedef {{changes: KeptEdit[][], end: number, off?: {change: KeptEdit[], place: number}[],
  *   saved: string | null, compared?: string}} KeptEdits
+ */
+
+/**
+ * What a page that was saved showed: the sum of its session, the edits, the place, the words, and
+ * the pasts with names.
+ * @typedef {{sum: string, edits: KeptEdits, place: import("./place.js").Place,
+ *   words: import("./names.js").WatchedWord[], pasts: import("./stored.js").StoredPast[]}} Shown
  */
 
 /**
@@ -58,8 +67,18 @@ export function sumOfSession(session) {
   return sums.get(session);
 }
 
+/** What this page showed of a session as it was saved, or null.
+    @param {Session} session */
+export function shownOf(session) {
+  const shown = packedShown();
+  return shown?.sum === sumOfSession(session) ? shown : null;
+}
+
+// A saved page keeps edits and pasts of its own: of none too, since it has some.
+export const ofPage = packedShown() ? ` ${sumOf([JSON.stringify(packedShown())])}` : "";
+
 /** @param {Session} session */
-const keyOfEdits = session => `nezdrab edits ${sumOfSession(session)}`;
+const keyOfEdits = session => `nezdrab edits ${sumOfSession(session)}${ofPage}`;
 
 const keyOfPage = () => `nezdrab session ${location.pathname} ${sumOf([packedText()])}`;
 
@@ -111,12 +130,12 @@ export async function keepSession(session) {
   return keep(keyOfPage(), await textOfSession(session));
 }
 
-/** The edits of a session that were kept, or null.
+/** The edits of a session that were kept, or with which the page was saved; or null.
     @param {Session} session
     @returns {KeptEdits | null} */
 export function keptEdits(session) {
   try {
-    const kept = JSON.parse(read(keyOfEdits(session)) ?? "null");
+    const kept = JSON.parse(read(keyOfEdits(session)) ?? "null") ?? shownOf(session)?.edits;
     /** @param {KeptEdit} edit */
     const isLine = ({ line }) => isEdit(line) && !/[\r\n]/.test(line);
     const areEdits = kept?.changes.every((/** @type {KeptEdit[]} */ it) => it.every(isLine));
@@ -132,6 +151,7 @@ export function keptEdits(session) {
 /** Keeps the edits of a session. Returns whether the browser does so.
     @param {Session} session @param {KeptEdits} edits */
 export function keepEdits(session, edits) {
-  const hasAny = edits.changes.length || edits.off?.length || edits.compared !== undefined;
+  const { changes, off, compared } = edits;
+  const hasAny = changes.length || off?.length || compared !== undefined || ofPage;
   return keep(keyOfEdits(session), hasAny ? JSON.stringify(edits) : null);
 }

@@ -20,10 +20,18 @@ import { LAST_TURN } from "./replies.js";
  * @typedef {{change: Edit[], place: number}} Off
  */
 
+// The last number that the program can give to an event.
+const LAST_NUMBER = 4_294_967_295;
+
 /** An edit in which the number of an event is another one, if it names this one.
     @param {string} line @param {string} number @param {string} given */
 export const renumbered = (line, number, given) => line.replace(/^(alter|drop) (\d+)/,
   (all, verb, named) => named === number ? `${verb} ${given}` : all);
+
+/** The number of the event that an edit makes or names, or 0.
+    @param {Edit} edit */
+const numberIn = ({ line, event }) =>
+  Number(event ?? /^(?:alter|drop) (\d+)/.exec(line)?.[1] ?? 0);
 
 export class Ledger {
   constructor() {
@@ -87,6 +95,7 @@ export class Ledger {
       @param {Edit} edit @param {boolean} joins */
   add(edit, joins) {
     this.undone = [];
+    if (edit.event) this.give(edit.event);
     const last = this.changes.at(-1);
     if (joins && last) last.push(edit);
     else this.changes.push([edit]);
@@ -109,11 +118,25 @@ export class Ledger {
     taken.length = Math.min(taken.length, tried.before);
   }
 
-  /** An event that comes back has a new number: edits to be undone or made again name that one.
+  /** All that the user did: what is in the past, what was undone, and what is off. */
+  get edits() {
+    return [...this.changes, ...this.undone, ...this.off.map(it => it.change)].flat();
+  }
+
+  /** The program gives an event this number. What isn't in the past, and named it so, gets another
+      one, which the program gives to none.
+      @param {string} number */
+  give(number) {
+    const { edits } = this, names = new RegExp(`^(alter|drop) ${number}\\b`);
+    if (!edits.some(it => it.event === number || names.test(it.line))) return;
+    const last = edits.reduce((most, it) => Math.max(most, numberIn(it)), LAST_NUMBER);
+    this.renumber(number, String(last + 1));
+  }
+
+  /** An event that is made again has a new number: edits to be undone or made again name that one.
       @param {string} number @param {string} given */
   renumber(number, given) {
-    const off = this.off.map(it => it.change);
-    for (const edit of [...this.changes, ...this.undone, ...off].flat()) {
+    for (const edit of this.edits) {
       edit.line = renumbered(edit.line, number, given);
       edit.back = edit.back?.map(it => renumbered(it, number, given)) ?? null;
       if (edit.event === number) edit.event = given;

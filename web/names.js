@@ -3,7 +3,7 @@
 
 import { octal, physicalOf, visibleName } from "./replies.js";
 import { Priority } from "./run.js";
-import { readableLine } from "./session.js";
+import { readableLine, symbolsOfMode } from "./session.js";
 
 /**
  * A word that is drawn as steps: of core by its address, or of a drive by its number.
@@ -55,4 +55,17 @@ export async function symbolOfWord(run, { kind, at }, symbols, turn) {
   const line = `translate ${turn} kernel ${at.toString(8)}`;
   const place = physicalOf(await run.askOne(line, Priority.PICTURE));
   return place === at ? visibleName(symbol.name) : "";
+}
+
+/** The forms that take an address have one of the session as an example, by its name too.
+    @param {Symbols} symbols */
+export function showExamples(symbols) {
+  /** @type {NodeListOf<HTMLElement>} */
+  const options = document.querySelectorAll("option[data-mode]");
+  for (const it of options) {
+    const named = symbolsOfMode(symbols, it.dataset.mode ?? "").find(one => !one.isConstant);
+    it.dataset.example = !named ? "1000"
+      : `${named.value.toString(8)} or ${visibleName(named.name)}`;
+    it.parentElement?.dispatchEvent(new Event("change"));
+  }
 }

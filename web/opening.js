@@ -1,17 +1,19 @@
 // Opens sessions and files, and saves what is open.
 
 import {
-  filesTogether, pageOfPast, saveFile, savedName, sessionOfFiles, startOf, textOfPast,
+  filesTogether, saveFile, savedName, sessionOfFiles, startOf, textOfPast,
 } from "./files.js";
 import { checkImages, readFiles } from "./given.js";
 import {
-  firstSession, forgetSession, isOwn, keepSession, keptEdits, sumOfSession,
+  firstSession, forgetSession, isOwn, keepSession, keptEdits, shownOf, sumOfSession,
 } from "./kept.js";
 import { checkPlace, loadedInWords } from "./loading.js";
 import { OpenSession, newRun } from "./opened.js";
+import { pageWith } from "./packed.js";
 import { element } from "./page.js";
 import { showRefused } from "./refused.js";
 import { visibleName } from "./replies.js";
+import { storedPasts } from "./stored.js";
 
 /**
  * @typedef {import("./session.js").Session} Session
@@ -32,12 +34,13 @@ export class Opening {
 
   /**
    * @param {Session} contents
-   * @param {Partial<Place>} place where it is shown
+   * @param {Partial<Place>} place where it is shown, unless it has no turn and the page has one
    * @param {KeptEdits | null} edits those that are made again
    * @param {Loaded[]} programs for which its core must have room
    */
   async open(contents, place, edits = keptEdits(contents), programs = []) {
     const { app } = this, { run, refused } = await this.loaded(contents, programs);
+    if (place.turn === undefined) place = shownOf(contents)?.place ?? place;
     const numbers = new Set(refused.map(it => it.number));
     app.begin(new OpenSession(contents, run, numbers, app.bar));
     const said = showRefused(element("refused"), refused, contents.lines);
@@ -146,8 +149,11 @@ export class Opening {
   savePage() {
     const { app } = this;
     return app.attempt(async () => {
-      const { contents, run, end } = app.session;
-      const page = await pageOfPast(contents, await run.askPast(), end);
+      const { contents, run } = app.session;
+      await run.askPast();
+      const page = await pageWith(contents, { sum: sumOfSession(contents),
+        edits: { ...app.edits.kept(), saved: app.edits.sum() }, place: app.view.place(),
+        words: app.watched.words, pasts: storedPasts(contents) });
       saveFile(savedName(contents, ".html"), page, "text/html");
       app.edits.noteSaved();
       app.say("Saved: one file with all in it.");

@@ -42,7 +42,8 @@ export class Outcome {
     const hasOthers = depositsOf(run.past) !== this.deposits;
     const found = verdictOf(text, { isMoved, turn, target: timeline.target, hasOthers });
     this.put(found);
-    if (moved !== null) timeline.tellOutcome(`${found.balance}, ${found.word}`);
+    if (moved === null) return;
+    timeline.tellOutcome([found.balance, found.word].filter(Boolean).join(", "));
   }
 
   /** @param {{balance: string, verdict: string, look: string}} found */

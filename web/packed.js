@@ -85,6 +85,10 @@ export const packedText = () => textOf("session");
 
 export const packedSession = () => sessionOfText(packedText());
 
+/** What the page showed as it was saved, or null.
+    @returns {import("./kept.js").Shown | null} */
+export const packedShown = () => JSON.parse(textOf("shown") || "null");
+
 /**
  * An example: what it is called in a link, and in the menu.
  * @typedef {{key: string, title: string, open: () => Promise<Session>}} Example
@@ -96,13 +100,15 @@ export const packedExamples = () =>
   JSON.parse(textOf("examples") || "[]").map((/** @type {any} */ { key, title, ...session }) => (
     { key, title, open: () => withFiles(session) }));
 
-/** The text of this page's file with another session in it.
-    @param {Session} session */
-export async function pageWith(session) {
-  const page = copyOf(opened);
-  const text = await textOfSession(session);
-  // `<` can't stand in the element as itself: it may begin its end
-  const held = /** @type {Element} */ (page.querySelector("#session"));
-  held.textContent = text.replaceAll("<", "\\u003c");
+/** The text of this page's file with another session in it, and what is shown of it.
+    @param {Session} session @param {import("./kept.js").Shown | null} shown */
+export async function pageWith(session, shown = null) {
+  const page = copyOf(opened), held = /** @type {Element} */ (page.querySelector("#session"));
+  const beside = page.querySelector("#shown") ?? copyOf(held);
+  beside.id = "shown";
+  held.after(beside);
+  // `<` can't stand in an element as itself: it may begin its end
+  held.textContent = (await textOfSession(session)).replaceAll("<", "\\u003c");
+  beside.textContent = JSON.stringify(shown).replaceAll("<", "\\u003c");
   return `<!DOCTYPE html>\n${page.outerHTML}\n`;
 }

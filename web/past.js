@@ -103,40 +103,19 @@ export class Past {
     return Object.assign(new Past(), this, { tape }, ...parts);
   }
 
-  /** The lines that take back an edit, asked before the edit is made; null if none is known.
-      @param {string} line */
-  inverse(line) {
-    const [word, ...rest] = wordsOfLine(line);
-    if (word === "core" || word === "disk") return this.inverseOfPatch(word, rest.slice(0, -1));
-    if (word === "uncore") return this.inverseOfPatch("core", rest);
-    if (word === "delay") return [`delay ${rest[0]} ${this.delays[rest[0]]}`];
-    if (word === "drop" || word === "alter") return this.inverseOfEvent(Number(rest[0]), word);
-    return null;
-  }
-
-  /** A disk's word without a patch has its image's value, which isn't known here.
-      @param {string} kind @param {string[]} where */
-  inverseOfPatch(kind, where) {
-    const name = [kind, ...where.map(it => parseInt(it, 8).toString(8))].join(" ");
-    const word = this.patches.get(name);
-    if (word !== undefined) return [[kind, ...where, word].join(" ")];
-    return kind === "core" ? [`uncore ${where[0]}`] : null;
-  }
-
-  /** The event as it was, and after it those that came after it in the same turn.
-      @param {number} number @param {string} word */
-  inverseOfEvent(number, word) {
+  /** The lines that take back a move of an event, asked before that is made: the event as it was,
+      and after it those that came after it in the same turn. Null if there is no such event.
+      @param {number} number */
+  inverseOfMove(number) {
     const event = this.events.get(number);
     if (!event) return null;
-    const back = word === "drop" ? `at ${event.turn} ${event.text}`
-      : `alter ${number} ${event.turn} ${event.text}`;
     const ofTurn = eventsIn(this.script, event.turn, event.turn);
     const later = ofTurn.slice(ofTurn.indexOf(event) + 1);
     /** @param {ScriptEvent} it */
     const away = it => `alter ${it.number} ${Math.abs(it.turn - 1)} ${it.text}`;
     /** @param {ScriptEvent} it */
     const again = it => `alter ${it.number} ${it.turn} ${it.text}`;
-    return [back, ...later.flatMap(it => [away(it), again(it)])];
+    return [again(event), ...later.flatMap(it => [away(it), again(it)])];
   }
 
   /** The lines of the patches that make the setup of another past this one, or null if it takes

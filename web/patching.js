@@ -1,7 +1,7 @@
-// Patches of core that are made and taken back together: many at once take no longer than a few.
+// Patches of core that are made together: many at once take no longer than a few.
 
 import { wordsOfLine } from "./past.js";
-import { isRefused, mustBeTaken } from "./replies.js";
+import { isRefused } from "./replies.js";
 
 const MOST_AT_ONCE = 4_096;
 
@@ -13,10 +13,9 @@ const MOST_AT_ONCE = 4_096;
 /** Makes patches of different words of core. Returns the edits that were taken, and the refusals.
     @param {Run} run @param {string[]} lines */
 export async function makePatches(run, lines) {
-  const past = await run.askPast(), before = run.ledger.taken.length;
-  const replies = await run.askEdits(lines);
+  const before = run.ledger.taken.length, replies = await run.askEdits(lines);
   /** @type {Edit[]} */
-  const edits = lines.map(line => ({ line, back: past.inverse(line), event: undefined, before }));
+  const edits = lines.map(line => ({ line, back: null, event: undefined, before }));
   const refused = replies.filter(isRefused);
   return { edits: edits.filter((_, at) => !isRefused(replies[at])), refused };
 }
@@ -31,15 +30,4 @@ export function patchesAhead(edits) {
     lines.set(at, line);
   }
   return lines.size > 1 ? [...lines.values()] : [];
-}
-
-/** Takes back the last edits of a change, if these are several patches of core. Returns how many.
-    @param {Run} run @param {Edit[]} change */
-export async function takeBackPatches(run, change) {
-  const last = change.slice(-MOST_AT_ONCE).reverse();
-  const other = last.findIndex(({ line }) => wordsOfLine(line)[0] !== "core");
-  const patches = other < 0 ? last : last.slice(0, other);
-  if (patches.length < 2 || patches.some(it => it.back === null)) return 0;
-  (await run.askEdits(patches.flatMap(it => it.back ?? []))).forEach(mustBeTaken);
-  return patches.length;
 }

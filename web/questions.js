@@ -6,10 +6,12 @@ import { LAST_TURN, isRefused, turnOf } from "./replies.js";
 
 const OF_A_TURN = new Set([
   "regs", "mem", "dsk", "text", "punched", "last", "trail", "devices", "pages", "translate",
-  "virtual", "find", "finddsk", "fades",
+  "virtual", "find", "finddsk", "fades", "accesses",
 ]);
-const OF_TURNS = new Set(["first", "latest", "counts", "writes", "change"]);
-const MOST_WRITES = 256;
+// Those that are replied to with a line for each turn that is found.
+const LISTS = new Set(["writes", "reads", "transfers"]);
+const OF_TURNS = new Set(["first", "latest", "counts", "change", ...LISTS]);
+const MOST_FOUND = 256;
 const LONGEST_LINE = 200;
 // In the first turns of a run a question is answered at once. A trail has at most so many turns. A
 // search of no more turns is asked as other questions are.
@@ -65,8 +67,9 @@ export function byteAsked(line) {
  * A search that is asked in parts; null for any other line. The turns from `from` on and before
  * `end` are left: the first of them come next, or of a search backwards the last.
  * `line(from, to)` asks about turns, `add(reply, isLast)` takes the reply, `isLast` if no turns are
- * left. It returns the reply to the whole search, or null if the search goes on.
- * @typedef {{from: number, end: number, isBackwards: boolean,
+ * left. It returns the reply to the whole search, or null if the search goes on. `begin` is the
+ * first turn of all.
+ * @typedef {{begin: number, from: number, end: number, isBackwards: boolean,
  *   line: (from: number, to: number) => string,
  *   add: (reply: string, isLast: boolean) => string | null}} Search
  * @param {string} line @returns {Search | null}
@@ -77,27 +80,28 @@ export function searchOf(line) {
   if (!isSearch(line)) return null;
   /** @param {number} low @param {number} high */
   const part = (low, high) => [word, low, high, ...rest].join(" ");
-  /** @type {{writes: string[], counts: number[]}} */
-  const { writes, counts } = { writes: [], counts: [] };
+  /** @type {{found: string[], counts: number[]}} */
+  const { found, counts } = { found: [], counts: [] };
   /** @param {string} reply @param {boolean} isLast */
   const add = (reply, isLast) => {
     if (isRefused(reply)) return reply;
-    if (word === "writes") return addWrites(writes, reply, isLast, to);
+    if (LISTS.has(word)) return addFound(found, reply, isLast, to);
     if (word === "counts") return addCounts(counts, reply, isLast);
     return turnOf(reply) === null && !isLast ? null : reply;
   };
-  return { from, end: to, isBackwards: word === "latest", line: part, add };
+  return { begin: from, from, end: to, isBackwards: word === "latest", line: part, add };
 }
 
-/** Adds the writes of a part; returns the reply to the whole search if it is known.
+/** Adds what was found in a part; returns the reply to the whole search if it is known.
     @param {string[]} found @param {string} reply @param {boolean} isLast @param {number} end */
-function addWrites(found, reply, isLast, end) {
-  found.push(...reply.split("\n").slice(1));
-  const lines = found.slice(0, MOST_WRITES);
-  const isFull = lines.length === MOST_WRITES;
+function addFound(found, reply, isLast, end) {
+  const [head, ...more] = reply.split("\n"), [word] = head.split(" ");
+  found.push(...more);
+  const lines = found.slice(0, MOST_FOUND);
+  const isFull = lines.length === MOST_FOUND;
   if (!isFull && !isLast) return null;
-  const hasMore = isFull && Number(lines[MOST_WRITES - 1].split(" ")[0]) + 1 < end;
-  return [`writes ${lines.length}${hasMore ? " or more" : ""}`, ...lines].join("\n");
+  const hasMore = isFull && Number(lines[MOST_FOUND - 1].split(" ")[0]) + 1 < end;
+  return [`${word} ${lines.length}${hasMore ? " or more" : ""}`, ...lines].join("\n");
 }
 
 /** Adds the counts of a part; returns the reply to the whole search after its last part.

@@ -28,7 +28,7 @@ export class Reached {
     const [, printed] = /^text ([1-9]\d*):/.exec(reply) ?? [], [, , , from = 0] = wordsOfLine(line);
     if (printed) this.printed = Math.max(this.printed, Number(from) + Number(printed));
     // a search may have ended before its last turn
-    this.at = /^(first|change) \d|^writes 256/.test(reply) ? begin : end;
+    this.at = /^(first|change) \d|^(writes|reads|transfers) 256/.test(reply) ? begin : end;
     this.known = Math.max(this.known, this.at);
     while (this.known >= MOST_CHECKPOINTS * this.stride) this.stride *= 2;
   }

@@ -2,13 +2,13 @@
 
 import { Ledger } from "./ledger.js";
 import { Machine, Stopped } from "./machine.js";
-import { makePatches, patchesAhead, takeBackPatches } from "./patching.js";
+import { makePatches, patchesAhead } from "./patching.js";
 import { isEdit, runsNothing, wordsOfLine } from "./past.js";
 import {
   askedAtOnce, byteAsked, earlyQuestion, isSearch, searchOf, turnsAsked,
 } from "./questions.js";
 import { Reached } from "./reached.js";
-import { LAST_TURN, eventOf, isRefused, mustBeTaken, octal, wordsOf } from "./replies.js";
+import { LAST_TURN, eventOf, isRefused, mustBeTaken } from "./replies.js";
 
 // A part is what is asked at once. It runs about so many turns: fewer if parts take long.
 const [FEWEST_TURNS, FIRST_TURNS, MOST_TURNS] = [100_000, 1_000_000, 4_000_000];
@@ -16,6 +16,8 @@ const [QUICK, SLOW] = [25, 80];
 // What a line takes beside its turns, as turns.
 const TURNS_OF_A_LINE = 10_000;
 const [MOST_LINES, MOST_EDITS] = [512, 4_096];
+// So many turns a function of the disk may have begun before it ended, at first.
+const FIRST_BACK = 64;
 
 /** Of several questions the one with the lowest number goes first. */
 export const Priority = { EDIT: 0, CURSOR: 1, QUESTION: 2, PICTURE: 3, TEXT: 4, COMPARISON: 5 };
@@ -214,6 +216,20 @@ export class Run {
     return [Math.max(from, checkpoint < end ? checkpoint : turn), end];
   }
 
+  /** The reply about a part. The first function of the disk in it may have begun before the part:
+      it gets the turn in which it did.
+      @param {string} reply @param {Search} search */
+  async withBegin(reply, { begin, from }) {
+    const [, turn] = /^transfers .*\n(\d+) before /.exec(reply) ?? [], end = Number(turn) + 1;
+    for (let first = from, back = FIRST_BACK; turn && first > begin; back *= 2) {
+      first = Math.max(begin, end - back);
+      const [longer] = await this.send([`transfers ${first} ${end}`]);
+      const [found] = new RegExp(`^${turn} \\d.*`, "m").exec(longer) ?? [];
+      if (found) return reply.replace(/(?<=\n).*/, found);
+    }
+    return reply;
+  }
+
   /** Searches some turns more.
       @param {Job} job @param {string} line */
   async searchOn(job, line) {
@@ -221,7 +237,8 @@ export class Run {
     if (!search) return;
     const [from, to] = this.partOf(search);
     this.showTurns(line, search, from);
-    const [reply] = await this.timed([search.line(from, to)], to - from);
+    const [asked] = await this.timed([search.line(from, to)], to - from);
+    const reply = await this.withBegin(asked, search);
     if (search.isBackwards) search.end = from;
     else search.from = to;
     const whole = search.add(reply, search.from === search.end);
@@ -324,6 +341,8 @@ export class Run {
   /** An edit was taken: what is known of the turns that it may change no longer holds.
       @param {string} line */
   take(line) {
+    // lines about a drive have another form from now on
+    if (wordsOfLine(line)[0] === "version") this.giveUp();
     this.reached.forgetFrom(this.ledger.note(line));
   }
 
@@ -344,10 +363,10 @@ export class Run {
     return this.ask(asked, Priority.EDIT);
   }
 
-  /** Puts back what was tried. */
+  /** Puts back the event that was tried. */
   async putBack() {
     if (!this.ledger.tried) return;
-    await this.takeBack(this.ledger.tried);
+    (await this.askEdits(this.ledger.tried.back ?? [])).forEach(mustBeTaken);
     this.ledger.endTrial();
   }
 
@@ -378,63 +397,33 @@ export class Run {
    * @param {string} line @returns {Promise<{reply: string, edit: Edit | null}>}
    */
   async make(line) {
-    const before = this.ledger.taken.length;
-    const back = await this.inverse(line);
+    const before = this.ledger.taken.length, [word, number] = wordsOfLine(line);
+    const moved = word === "alter" ? (await this.askPast()).inverseOfMove(Number(number)) : null;
     const reply = await this.askOne(line, Priority.EDIT);
     if (isRefused(reply)) return { reply, edit: null };
-    const event = wordsOfLine(line)[0] === "at" ? String(eventOf(reply)) : undefined;
-    return { reply, edit: { line, back: event ? [`drop ${event}`] : back, event, before } };
+    const event = word === "at" ? String(eventOf(reply)) : undefined;
+    return { reply, edit: { line, back: event ? [`drop ${event}`] : moved, event, before } };
   }
 
-  /** The lines that take back an edit, asked before it is made; null if there are none.
-      @param {string} line @returns {Promise<string[] | null>} */
-  async inverse(line) {
-    // an event that is made is dropped
-    if (wordsOfLine(line)[0] === "at") return null;
-    const lines = (await this.askPast()).inverse(line);
-    if (lines || wordsOfLine(line)[0] !== "disk") return lines;
-    const where = wordsOfLine(line).slice(1, -1).join(" ");
-    const reply = await this.askOne(`dsk 0 ${where} 1`, Priority.EDIT);
-    return isRefused(reply) ? null : [`disk ${where} ${octal(wordsOf(reply)[0])}`];
-  }
-
-  /** Takes back what the user did last. If this is stopped, the rest of it stays done. */
-  async undo() {
+  /** Takes back what the user did, from a place on: if none is given, what was done last. If no
+      line takes back one of the edits, the machine begins anew with those before them: so an event
+      that was taken out has its number again.
+      @param {number} [place] */
+  async undo(place = Math.max(0, this.ledger.changes.length - 1)) {
     await this.putBack();
-    const { changes, undone } = this.ledger, change = changes.at(-1);
-    if (!change) return;
-    /** @type {Edit[]} */
-    const taken = [];
-    undone.push(taken);
-    for (let edit = change.at(-1); edit; edit = change.at(-1)) {
-      const patches = await takeBackPatches(this, change);
-      if (!patches) await this.takeBack(edit);
-      taken.unshift(...change.splice(-Math.max(1, patches)));
-    }
-    changes.pop();
-  }
-
-  /** An edit that no line takes back needs the machine anew, with the edits before it.
-      @param {Edit} edit */
-  async takeBack(edit) {
-    if (!edit.back) {
-      this.ledger.taken.length = edit.before;
+    const { changes, undone } = this.ledger, edits = changes.slice(place).flat().reverse();
+    if (edits.some(it => !it.back)) {
+      this.ledger.taken.length = edits[edits.length - 1].before;
       await this.startAgain();
-      return;
-    }
-    const [word, number] = wordsOfLine(edit.line);
-    for (const line of edit.back) {
-      const reply = mustBeTaken(await this.askOne(line, Priority.EDIT));
-      const isBack = word === "drop" && wordsOfLine(line)[0] === "at";
-      if (isBack) this.ledger.renumber(number, String(eventOf(reply)));
-    }
+    } else (await this.askEdits(edits.flatMap(it => it.back ?? []))).forEach(mustBeTaken);
+    undone.push(...changes.splice(place).reverse());
   }
 
-  /** Does again what was undone last. If this is stopped, the rest of it stays undone. */
+  /** Does again what was undone last. If this is stopped, the rest of it stays undone. Returns the
+      edits of it that are refused. */
   async redo() {
     await this.putBack();
-    const { changes, undone } = this.ledger, wanted = undone.at(-1);
-    if (!wanted) return;
+    const { changes, undone } = this.ledger, wanted = undone.at(-1) ?? [], all = [...wanted];
     /** @type {Edit[]} */
     const change = [];
     changes.push(change);
@@ -446,21 +435,31 @@ export class Run {
         continue;
       }
       const { edit } = await this.make(wanted[0].line), { event } = wanted[0];
+      if (event && edit?.event && event !== edit.event) {
+        this.ledger.give(edit.event);
+        this.ledger.renumber(event, edit.event);
+      }
       wanted.shift();
       if (edit) change.push(edit);
-      if (edit?.event && event) this.ledger.renumber(event, edit.event);
     }
     undone.pop();
     if (!change.length) changes.pop();
+    const made = new Set(change.map(it => it.line));
+    return all.filter(it => !made.has(it.line));
   }
 
-  /** Ends the questions that the machine is at. Edits go on: they run nothing. */
-  stop() {
+  /** Gives up what is asked. Edits go on: they run nothing. */
+  giveUp() {
     for (const job of this.jobs) {
       if (this.goesOn(job)) continue;
       this.remove(job);
       job.reject(new Stopped());
     }
+  }
+
+  /** Ends the questions that the machine is at. */
+  stop() {
+    this.giveUp();
     this.reached = new Reached();
     this.machine.stop();
   }

@@ -1,7 +1,7 @@
 // The pasts of a session that have names: the browser keeps them after the tab is closed. If it
 // keeps nothing, they stay until the page is reloaded.
 
-import { sumOfSession } from "./kept.js";
+import { ofPage, shownOf, sumOfSession } from "./kept.js";
 import { isEdit } from "./past.js";
 
 const MOST_PASTS = 16, LONGEST_NAME = 40;
@@ -18,7 +18,7 @@ const MOST_PASTS = 16, LONGEST_NAME = 40;
 const here = new Map();
 
 /** @param {Session} session */
-const keyOf = session => `nezdrab pasts ${sumOfSession(session)}`;
+const keyOf = session => `nezdrab pasts ${sumOfSession(session)}${ofPage}`;
 
 /** @param {string} key */
 function read(key) {
@@ -41,7 +41,7 @@ function isRight({ name, lines, changes, end }) {
 /** @param {Session} session @returns {StoredPast[]} */
 export function storedPasts(session) {
   try {
-    const found = JSON.parse(read(keyOf(session)) ?? "[]");
+    const found = JSON.parse(read(keyOf(session)) ?? "null") ?? shownOf(session)?.pasts ?? [];
     return found.every(isRight) ? found : [];
   } catch {
     return [];
@@ -58,7 +58,7 @@ export function storePasts(session, pasts) {
   here.set(key, text);
   try {
     localStorage.removeItem(key);
-    if (kept.length) localStorage.setItem(key, text);
+    if (kept.length || ofPage) localStorage.setItem(key, text);
   } catch {
     // it keeps nothing, or has no room
   }

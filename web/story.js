@@ -6,6 +6,8 @@ import { sumOf } from "./kept.js";
 const SUM = "pd79pa-62k3c4";
 const EVENTS = 27;
 export const STORY = { first: 126_300, span: 2_600, cursor: 126_967, wanted: "145",
+  // how many balances the teller prints, and the last of them if each deposit of the day is in it
+  balances: 6, evening: 0o176,
   sweep: { event: 15, from: 126_600, to: 127_400 },
   // where the event is safe: so the tests find by trying it; and the deposit before it
   safe: { event: 15, before: 14, tick: 127_131, from: 127_165, to: 137_719 },
@@ -45,17 +47,15 @@ export function targetOf(past, begun) {
 export const isStory = (session, past) =>
   !session.arguments.length && past.script.length === EVENTS && sumOfPast(past) === SUM;
 
-/** The fourth balance that the teller printed, such as 137, or null before that.
+/** The balances that the teller printed, such as 137.
     @param {string} text */
-export function fourthBalance(text) {
-  const balances = [...text.matchAll(/=([0-7]{6})/g)].map(it => it[1].replace(/^0+/, ""));
-  return balances[3] ?? null;
-}
+export const balancesIn = text =>
+  [...text.matchAll(/=([0-7]{6})/g)].map(it => it[1].replace(/^0+/, ""));
 
 /** Which way the event is to be moved on from a turn: in a word, and as a part of a sentence.
     @param {number | null} turn @param {Range | null} target */
 function wayFrom(turn, target) {
-  if (target && turn !== null && turn < target.from) return ["further", "move it further"];
+  if (target && turn !== null && turn < target.from) return ["to the right", "move the key right"];
   if (target && turn !== null && turn > target.to) return ["too far", "too far, go back"];
   return ["lost", "try another turn"];
 }
@@ -71,14 +71,16 @@ function wayFrom(turn, target) {
 /** The balance, what it means, in a word too, and how it looks.
     @param {string} text @param {Case} past */
 export function verdictOf(text, { isMoved, turn = null, target = null, hasOthers = false }) {
-  const balance = fourthBalance(text);
+  const balances = balancesIn(text), balance = balances[3] ?? "none";
   /** @param {string} verdict @param {string} look @param {string} word */
-  const found = (verdict, look, word) => ({ balance: balance ?? "none", verdict, look, word });
-  if (balance === null) return found("not printed", "bad", "");
+  const found = (verdict, look, word) => ({ balance, verdict, look, word });
+  if (balance === "none") return found("not printed", "bad", "");
   if (hasOthers) return found("not of the same day: see the edits", "", "");
-  if (balance === STORY.wanted) return found("\u2713 nothing is lost", "good", "nothing is lost");
-  const lost = parseInt(STORY.wanted, 8) - parseInt(balance, 8);
-  const what = lost > 0 ? `a deposit of ${lost.toString(8)} is lost` : "other deposits";
-  const [word, again] = isMoved ? wayFrom(turn, target) : ["", "it should be 145"];
-  return found(`\u2717 ${what}; ${again}`, "bad", word);
+  if (balances.length < STORY.balances) return found("the last balance isn't printed", "", "");
+  const missing = STORY.evening - parseInt(balances[STORY.balances - 1], 8);
+  const later = balance === STORY.wanted ? "" : ": the rest came later";
+  if (!missing) return found(`\u2713 nothing is lost${later}`, "good", "nothing is lost");
+  const lost = missing.toString(8), [word, again] = wayFrom(turn, target);
+  if (!isMoved) return found(`\u2717 a deposit of ${lost} is lost; it should be 145`, "bad", "");
+  return found(`\u2717 the last balance lacks ${lost}; ${again}`, "bad", word);
 }

@@ -29,6 +29,12 @@ export function spreadTurns(from, to) {
   return turns;
 }
 
+/** The turns in this order, but that of the event itself first: moved away and back, it would come
+    after the others of its turn.
+    @param {number[]} turns @param {ScriptEvent} event */
+const ownFirst = (turns, { turn }) =>
+  turns.includes(turn) ? [turn, ...turns.filter(it => it !== turn)] : turns;
+
 /** Turns that follow one another and have the same outcome, as they are known.
     @param {Map<number, number>} outcomes */
 export function runsOf(outcomes) {
@@ -163,7 +169,7 @@ export class Sweep {
     this.numbers = new Map();
     this.replies = [];
     this.shown = 0;
-    const turns = spreadTurns(Number(from), Number(to));
+    const turns = ownFirst(spreadTurns(Number(from), Number(to)), event);
     // at once: what the outcomes take of the page doesn't move the button later
     this.showTable();
     this.show(turns.length);

@@ -39,7 +39,7 @@ export async function switchItem(run, index) {
   /** @type {string[]} */
   const refused = [];
   ledger.undone = [];
-  while (ledger.changes.length > switched.place) await run.undo();
+  await run.undo(switched.place);
   // events get new numbers below: what is off is named by these too
   /** @type {Off[]} */
   const others = items.filter(it => !it.isOn && it !== switched);
@@ -64,15 +64,10 @@ export async function switchItem(run, index) {
 /** Makes again what was undone last. Returns what of it is off: that which is refused.
     @param {Run} run @param {string[]} refused @returns {Promise<Off[]>} */
 async function makeAgain(run, refused) {
-  const { ledger } = run, before = ledger.changes.length;
-  const wanted = (ledger.undone.at(-1) ?? []).map(it => ({ ...it }));
-  await run.redo();
-  const made = ledger.changes[before] ?? [];
-  if (made.length === wanted.length) return [];
-  const isMade = new Set(made.map(it => it.line));
-  const change = wanted.filter(it => !isMade.has(it.line));
+  const change = await run.redo();
+  if (!change.length) return [];
   refused.push(...change.map(it => it.line));
-  const off = { change, place: ledger.changes.length };
-  ledger.off.push(off);
+  const off = { change, place: run.ledger.changes.length };
+  run.ledger.off.push(off);
   return [off];
 }

@@ -184,16 +184,20 @@ class Listing {
   }
 }
 
-/** The table has each symbol; labels on the left tell which name a place. Without a table the left
-    columns have them all.
+/** The table has each symbol; labels on the left tell which name a place, and in which order.
+    Without a table the left columns have them all.
     @param {string[]} lines @returns {SymbolFile} */
 function ofListing(lines) {
   const listing = new Listing();
   for (const it of lines) listing.add(it);
   const { skipped } = listing, labels = [...listing.labels.values()];
-  const places = new Set(labels.filter(it => !it.isConstant).map(it => it.name.toUpperCase()));
-  const named = [...listing.table.values()].map(it => (
-    { ...it, isConstant: it.isConstant && !places.has(it.name.toUpperCase()) }));
+  const places = labels.filter(it => !it.isConstant).map(it => it.name.toUpperCase());
+  const order = new Map(places.map((name, at) => [name, at + 1]));
+  /** @param {Symbol} it */
+  const placeOf = it => order.get(it.name.toUpperCase()) ?? 0;
+  const named = [...listing.table.values()]
+    .map(it => ({ ...it, isConstant: it.isConstant && !placeOf(it) }))
+    .sort((one, other) => placeOf(one) - placeOf(other));
   const symbols = named.length ? named : labels;
   return { kind: "a MACRO-11 listing", symbols, skipped, remark: "" };
 }

@@ -58,12 +58,12 @@ export function symbolsOfSession(session) {
   return found;
 }
 
-/** The symbols of a file by their addresses, or null if it has none.
+/** The symbols of a file by their addresses, or null if it has none. Of two names of an address the
+    last one is shown, as in src/nezdrab/explore/symbols.py.
     @param {Uint8Array} bytes */
 function inOrder(bytes) {
   try {
-    return namesOf(bytes).symbols.sort((one, other) =>
-      one.value - other.value || (one.name < other.name ? -1 : 1));
+    return namesOf(bytes).symbols.sort((one, other) => one.value - other.value);
   } catch (error) {
     if (error instanceof FileError) return null;
     throw error;

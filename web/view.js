@@ -2,6 +2,7 @@
 // when they move.
 
 import { Minimap } from "./minimap.js";
+import { showExamples } from "./names.js";
 import { delayed, element, field } from "./page.js";
 import { Path } from "./path.js";
 import { keepPlace } from "./place.js";
@@ -59,6 +60,7 @@ export class PageView {
     const { symbols, end } = this.app.session;
     this.timeline.symbols = symbols;
     this.timeline.whole = end;
+    showExamples(symbols);
   }
 
   pastChanged() {

@@ -1,5 +1,6 @@
 // The words of core and of drives that the timeline draws.
 
+import { shownOf } from "./kept.js";
 import { nameOfWord, namesOfSession, symbolOfWord, wordNamed } from "./names.js";
 import { element, make } from "./page.js";
 import { whyNoWord } from "./picture.js";
@@ -20,7 +21,7 @@ export class Watched {
   /** Another session is open. */
   sessionBegins() {
     const { isStory, contents } = this.app.session;
-    this.words = isStory ? STORY.words : [];
+    this.words = shownOf(contents)?.words ?? (isStory ? STORY.words : []);
     this.called = namesOfSession(contents);
   }
 

@@ -30,6 +30,43 @@ class CountingRun extends Run {
   }
 }
 
+/** A disk whose functions take 250,000 turns, each 300,000 one, and a word that is read as each of
+    them ends. */
+class ListingMachine extends NotingMachine {
+  reply(line) {
+    const [word, ...turns] = line.split(" "), [from, to] = turns.map(Number);
+    if (word !== "reads" && word !== "transfers") return super.reply(line);
+    if (to > 1_000_000_000) return "refused 7 TurnTooLarge";
+    this.runTo(to);
+    const lines = [];
+    for (let begin = 0; begin + 250_000 < to; begin += 300_000) {
+      if (begin + 250_000 < from) continue;
+      const rest = word === "reads" ? "cpu 000007" : `${begin < from ? "before" : begin} read`;
+      lines.push(`${begin + 250_000} ${rest}`);
+    }
+    const isFull = lines.length > 256;
+    return [`${word} ${isFull ? "256 or more" : lines.length}`, ...lines.slice(0, 256)].join("\n");
+  }
+}
+
+class ListingRun extends Run {
+  newMachine() {
+    return new ListingMachine();
+  }
+}
+
+/** In parts they have the replies that they have at once. */
+export async function test_reads_and_transfers_are_asked_in_parts() {
+  const run = new ListingRun({}), lines = ["reads 5 30000000 2000", "transfers 5 30000000",
+    "transfers 100000 90000000", "transfers 7 2000000000"];
+  const replies = await run.ask(lines), most = Math.max(...run.machine.runs);
+  equal(replies, lines.map(it => new ListingMachine().reply(it)));
+  equal(replies.map(it => it.split("\n")[0]),
+    ["reads 100", "transfers 100", "transfers 256 or more", "refused 7 TurnTooLarge"]);
+  equal(replies[2].split("\n").filter(it => it.includes("before")), ["250000 before read"]);
+  equal([most <= 8_000_000, turnsAsked("accesses 900 5")], [true, [900, 900]]);
+}
+
 export function test_lines_about_a_state_are_about_its_turn() {
   const lines = ["translate 70 user 20000", "virtual 70 kernel 1000 4", "find 70 0 776 5 mask 7",
     "finddsk 70 3 0 776 5"];

@@ -7,6 +7,7 @@ import { sumOf } from "/kept.js";
 import { PAST_LINES, Past, differenceOf, eventLabel, eventsIn } from "/past.js";
 import { lastTurnOf } from "/session.js";
 import { isStory } from "/story.js";
+import { itemsOf, switchItem } from "/switching.js";
 import { NotingRun, SETUP } from "/units.js";
 
 function equal(found, wanted) {
@@ -40,17 +41,10 @@ export function test_only_what_is_told_anew_changes() {
   equal([past.lines(), before.script.length], [["delay disk 200", "core 1000 5"], 2]);
 }
 
-export function test_inverses() {
+export function test_a_move_is_taken_back_by_lines() {
   const past = pastOf(MOVED);
-  equal(past.inverse("core 01000 7"), ["core 01000 5"]);
-  equal(past.inverse("core 2000 7"), ["uncore 2000"]);
-  equal(past.inverse("uncore 1000"), ["core 1000 5"]);
-  equal(past.inverse("delay disk 3"), ["delay disk 200"]);
-  equal(past.inverse("alter 1 8 key 66"),
-    ["alter 1 9 key 66", "alter 2 8 tick", "alter 2 9 tick"]);
-  equal(past.inverse("drop 2"), ["at 9 tick"]);
-  equal(["disk 010 4", "disk 7 4", "tape 1"].map(it =>
-    pastOf({ patches: ["disk 0000010 000003"] }).inverse(it)), [["disk 010 3"], null, null]);
+  equal(past.inverseOfMove(1), ["alter 1 9 key 66", "alter 2 8 tick", "alter 2 9 tick"]);
+  equal([past.inverseOfMove(2), past.inverseOfMove(3)], [["alter 2 9 tick"], null]);
 }
 
 /** The events of a turn are in their order again. */
@@ -69,6 +63,67 @@ export async function test_an_undo_keeps_the_order_of_a_turn() {
 /** The script of a run, told anew, and the edits that the ledger has. */
 const stateOf = async run =>
   [(await run.askPast()).script.map(it => `${it.turn} ${it.text}`), run.ledger.lines];
+
+/** A tape, or version 2, is taken back by a machine that begins anew: so is an event that was taken
+    out, and each has its number again. */
+export async function test_no_edit_is_lost_by_undo_and_redo() {
+  const run = new NotingRun({}), lines = ["version 2", "drop 2"];
+  await run.load(["at 9 key 66", "at 9 tick", "at 9 key 101"]);
+  const numbers = async () => (await run.askPast()).script.map(it => it.number);
+  for (const line of lines) await run.commit(line);
+  await run.undo();
+  equal(await numbers(), [1, 2, 3]);
+  await run.undo();
+  equal([await run.redo(), await run.redo()], [[], []]);
+  equal([await numbers(), run.ledger.changes.flat().map(it => it.line)], [[1, 3], lines]);
+  equal([await switchItem(run, 0), await numbers()], [[], [1, 3]]);
+}
+
+/** A question about a drive that waits would be refused in version 2. */
+export async function test_what_waits_is_given_up_as_the_version_changes() {
+  const run = new NotingRun({}), edit = run.askEdits(["version 2"]);
+  const found = run.ask(["dsk 5 0 1"]).catch(error => error.message);
+  equal([await edit, await found, run.machine.lines],
+    [["version 2"], "the question was stopped", ["version 2"]]);
+}
+
+/** What is refused is told, and no edit names an event that another one made. */
+export async function test_events_that_are_off_keep_numbers_of_their_own() {
+  const run = new NotingRun({});
+  await run.load(["at 9 key 66"]);
+  for (const line of ["tape 1", "at 5 tick", "alter 2 6 tick"]) await run.commit(line);
+  equal(await switchItem(run, 1), ["alter 2 6 tick"]);
+  // the machine begins anew: the next event is number 2 once more
+  await switchItem(run, 0);
+  equal(await run.commit("at 40 disk"), "event 2");
+  for (const at of [1, 2]) equal(await switchItem(run, at), []);
+  equal((await stateOf(run))[0], ["6 tick", "9 key 66", "40 disk"]);
+}
+
+/** Edits are undone, made again, switched off and on in some order. With all of them on the past is
+    as it was, and without them as it was before. */
+export async function test_all_edits_come_back() {
+  let seed = 1;
+  const below = count => (seed = seed * 16_807 % (2 ** 31 - 1)) % count;
+  for (let walk = 0; walk < 20; walk++) {
+    const run = new NotingRun({}), state = async () => JSON.stringify((await stateOf(run))[0]);
+    await run.load(["at 9 key 66", "at 9 tick", "at 30 tick"]);
+    const numbered = async () => JSON.stringify((await run.askPast()).script);
+    const first = await numbered();
+    for (const line of ["at 5 key 101", "version 2", "at 5 key 102", "alter 4 9 key 103", "drop 2",
+      "at 7 disk", "alter 5 30 key 104", "tape 1", "alter 1 9 key 67"]) await run.commit(line);
+    const last = await state(), { ledger } = run;
+    for (let step = 0; step < 12; step++) {
+      if (ledger.undone.length || !below(3)) await (below(2) ? run.undo() : run.redo());
+      else await switchItem(run, below(9));
+    }
+    while (ledger.undone.length) await run.redo();
+    for (let at = 0; at < 9; at++) if (!itemsOf(ledger)[at].isOn) await switchItem(run, at);
+    equal([await state(), ledger.off, ledger.changes.length], [last, [], 9]);
+    while (ledger.changes.length) await run.undo();
+    equal(await numbered(), first);
+  }
+}
 
 /** What is tried is put back by the edit that follows, and leaves nothing in the ledger. */
 export async function test_what_is_tried_is_no_edit() {

@@ -158,8 +158,41 @@ class Lines(PageCase):
         said = self.type_line("dsk 238614 0 1")
         self.assertIn("dsk 000170", said)
 
+    def test_an_event_that_was_taken_out_is_the_same_again(self) -> None:
+        """With its number the story has its steps, its target, and what it says of the balance."""
+        def shown() -> list[str]:
+            self.wait_text("#verdict", "a deposit of 6 is lost; it should be 145")
+            self.browser.wait("document.querySelectorAll('#steps li').length === 4")
+            self.wait_still()
+            texts = "['events', 'steps', 'verdict', 'difference'].map(it => find(it).textContent)"
+            asked = f"[...{texts}, find('line').placeholder, find('happened').hidden]"
+            return list(self.browser.value(f"(find => {asked})(it => document.getElementById(it))"))
+
+        before, events = shown(), self.type_line("events")
+        self.browser.value("""document.querySelector('[data-name="take out 6"]').click()""")
+        self.browser.wait("document.querySelectorAll('#edits li').length === 1")
+        self.assertEqual(self.edits(), ["drop 6"])
+        self.browser.click("#undo")
+        self.wait_text("#reply", "undone")
+        self.assertEqual([*shown(), self.type_line("events")], [*before, events])
+
+    def test_edits_of_before_a_machine_that_begins_anew_are_made_again(self) -> None:
+        for line in ("version 2", "drop 15"):
+            self.type_line(line)
+        for button, said in (("undo", "undone"), ("redo", "made again")):
+            for _ in range(2):
+                self.browser.value("document.querySelector('#reply').textContent = ''")
+                self.browser.click(f"#{button}")
+                self.wait_text("#reply", said)
+        self.assertEqual(self.edits(), ["version 2", "drop 15"])
+        self.wait_text("#events-count", "26 events")
+        self.browser.click("#edits li:nth-child(1) input")
+        said = self.wait_text("#reply", "switched off")
+        self.assertEqual(said, "version 2: switched off")
+        self.wait_text("#events-count", "26 events")
+
     def test_all_edits_are_undone_and_made_again(self) -> None:
-        """Events that come back have other numbers. No line takes a tape back."""
+        """No line takes back a tape, or an event that was taken out."""
         count = "document.querySelectorAll('#edits li').length === {}"
         first = self.browser.text("#text")
         number = self.type_line("at 5 key 101").split()[-1]

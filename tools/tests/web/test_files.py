@@ -90,17 +90,58 @@ class Files(FilesCase):
         for line, reply in zip(asked, native):
             self.assertEqual(self.type_line(line), f"{line}: {reply}")
 
-    def test_a_saved_page_has_it_all(self) -> None:
-        self.browser.drag(KEY, 110)
-        self.balance(SAFE)
-        self.browser.wait("document.querySelectorAll('#edits li').length === 1")
+    def test_a_saved_page_shows_what_was_shown(self) -> None:
+        """Its edits, on and off, pasts, words that are drawn, and the cursor's turn."""
+        self.addCleanup(self.browser.value, "localStorage.clear()")
+        self.type_line("alter 15 127000 key 66")
+        self.fill("#keep-name", "early")
+        self.browser.key("Enter")
+        self.wait_text("#reply", "Kept as early")
+        self.browser.click("#undo")
+        for line in ("alter 15 127165 key 66", "drop 3", "at 230000 key 75"):
+            self.type_line(line)
+        self.browser.click("#edits li:nth-child(2) input")
+        self.wait_text("#reply", "drop 3: switched off")
+        self.fill("#watch", "2000")
+        self.browser.key("Enter")
+        self.wait_text("#words", "QUEUE (core 002000)")
+        self.browser.value(
+            "(it => { it.selectedIndex = 1; it.dispatchEvent(new Event('change')); })"
+            "(document.querySelector('#compared-with'))"
+        )
+        self.wait_text("#legend-old", "in early")
+        self.fill("#turn", "127000")
+        self.browser.key("Enter")
+        shown = self.shown()
+        self.assertEqual(shown[0], "127000")
         path = self.saved("#save-page")
         if packed_page().startswith("http"):
             self.skipTest("the page isn't packed")
         self.browser.open(path.as_uri())
-        self.assertIn(SAFE, self.wait_text("#text", SAFE))
-        is_hidden = "document.querySelector('#story').hidden"
-        self.assertTrue(self.browser.value(is_hidden), "the story tells of another past")
+        self.assertEqual(self.shown(), shown)
+        self.browser.reload()
+        self.assertEqual((self.shown(), self.browser.dialogs), (shown, []))
+        # what is undone here stays so
+        for left in (1, 0):
+            self.browser.click("#undo")
+            self.browser.wait(f"document.querySelectorAll('#edits li:not(.off)').length === {left}")
+        self.balance(LOST)
+        self.browser.reload()
+        self.balance(LOST)
+
+    def shown(self) -> list[str]:
+        """What is shown of a past with edits, once all is there."""
+        self.balance(SAFE)
+        self.wait_text("#difference", "Drive 0")
+        self.wait_still()
+        texts = self.browser.value(
+            "['edits', 'words', 'text', 'difference', 'registers', 'verdict', 'story', 'steps',"
+            "'events-count', 'compared-with', 'legend-old']"
+            ".map(it => document.getElementById(it).textContent)"
+        )
+        ghosts = "[...document.querySelectorAll('.mark.ghost')].map(it => it.textContent).join()"
+        turn = self.browser.value("document.querySelector('#turn').value")
+        return [turn, *texts, self.browser.value(ghosts)]
 
 
 class Kept(FilesCase):

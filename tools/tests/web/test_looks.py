@@ -11,7 +11,11 @@ from .common import KEY, SAFE, PageCase
 SIZES = ((1280, 900), (400, 800))
 # What the page shows for moments, or changes while the user does something else.
 WORKS = (None, "0 of 1 edits", "999999999 of 1000000000 turns")
-VERDICTS = ("", "\u2713 nothing is lost", "\u2717 a deposit of 100 is lost; too far, go back")
+VERDICTS = (
+    "",
+    "\u2713 nothing is lost: the rest came later",
+    "\u2717 the last balance lacks 16; move the key right",
+)
 # Where the button that stops the work is, and the timeline, whatever of these is shown.
 PLACES = """((works, verdicts) => {
   const found = it => document.querySelector(it);

@@ -1,7 +1,7 @@
 """What the panels show is what the program replies."""
 import re
 
-from .common import PageCase, ledger_lines, replies_of
+from .common import ROOT, PageCase, ledger_lines, replies_of
 
 TURN = 127_163
 
@@ -50,6 +50,20 @@ class Panels(PageCase):
         shown = self.wait_text("#instructions", "next")
         self.assertIn("127162user000002interrupt 060 keyboardCLERK+2", shown)
         self.assertIn("kernel001232MOV R0,-(SP)KEY", shown)
+
+    def test_the_word_that_ran_after_a_transfer(self) -> None:
+        """In turn 12 the disk writes a HALT over the BR that was there before the turn."""
+        path = self.folder() / "halted.session"
+        lines = (ROOT / "examples" / "disk-over-the-program.session").read_text().splitlines()
+        path.write_text("\n".join([*lines[: lines.index("disk 0 777")], ""]))
+        self.give(path)
+        self.fill("#turn", "12")
+        self.browser.key("Enter")
+        shown = self.wait_text("#instructions", "\u25b6 nextkernel001022HALT")
+        self.assertIn("11kernel001022BR 1022", shown)
+        self.fill("#turn", "13")
+        self.browser.key("Enter")
+        self.wait_text("#instructions", "12kernel001022HALT")
 
     def test_pages_in_words(self) -> None:
         (reply,) = self.replies(f"pages {TURN}")

@@ -105,7 +105,7 @@ class Target(PageCase):
         self.browser.wait(f"{GREEN}({self.column(story()['from'] + 400):.0f})")
         self.browser.key("ArrowRight", ALT | SHIFT, is_up=False)
         said = self.wait_text(".carried", f"turn {KEY_TURN + 64}: ")
-        self.assertEqual(said.split(": ")[1], f"{LOST}, further")
+        self.assertEqual(said.split(": ")[1], f"{LOST}, to the right")
         self.browser.key("Escape")
 
     def test_another_edit_takes_it_away(self) -> None:
@@ -139,13 +139,25 @@ class Carried(PageCase):
         self.assertGreater(shown, 2)
         self.browser.key("Escape")
 
-    def test_further_and_too_far(self) -> None:
+    def test_what_is_lost_is_what_the_last_balance_lacks(self) -> None:
+        """Moved past the fourth `=` the deposit is in the fifth balance. Of two deposits that are
+        lost both are told, also if the fourth balance is as it should be."""
         safe = story()
-        for turn, way in ((safe["from"] - 1, "move it further"), (safe["to"] + 1, "too far")):
-            self.type_line(f"alter 15 {turn} key 66")
-            self.wait_text("#verdict", way)
-        self.type_line(f"alter 15 {safe['from']} key 66")
-        self.wait_text("#verdict", "nothing is lost")
+        right, far = "lacks 6; move the key right", "too far, go back"
+        for line, said in (
+            (f"alter 15 {safe['from'] - 1} key 66", right),
+            (f"alter 15 {KEY_TURN - 60} key 66", right),
+            (f"alter 15 {safe['to'] + 1} key 66", far),
+            ("alter 15 150000 key 66", "nothing is lost: the rest came later"),
+            (f"alter 15 {safe['from']} key 66", "\u2713 nothing is lost"),
+            ("alter 19 155337 key 64", "lacks 4; try another turn"),
+            (f"alter 15 {KEY_TURN} key 66", "lacks 12; try another turn"),
+        ):
+            self.type_line(line)
+            self.wait_text("#verdict", said)
+            last = replies_of([*PAST, *self.edits(), f"dsk {END} 0 1"])[-1].split()[-1]
+            lacks = re.search("lacks ([0-7]+)", self.browser.text("#verdict"))
+            self.assertEqual(int(lacks[1], 8) if lacks else 0, 0o176 - int(last, 8))
 
     def test_a_finger_at_400_pixels(self) -> None:
         """The way to the target is short, and all of it is in sight, with the balance."""
@@ -196,6 +208,20 @@ class Happened(PageCase):
                 "clerk A wrote 132 over it",
             ],
         )
+
+    def test_the_heading_goes_with_them(self) -> None:
+        is_hidden = "document.querySelector('#happened').hidden"
+        self.steps()
+        self.assertFalse(self.browser.value(is_hidden))
+        self.browser.value("document.querySelector('#terminal').focus()")
+        self.browser.key("Enter")
+        self.wait_text("#terminal-status", "before turn ")
+        self.browser.type("1")
+        self.browser.wait("document.querySelectorAll('#edits li').length")
+        self.browser.wait(is_hidden)
+        self.browser.key("Tab")
+        self.wait_still()
+        self.assertTrue(self.browser.value(is_hidden))
 
     def test_a_step_is_a_place(self) -> None:
         turn = int(self.steps()[1].split()[-1])

@@ -51,6 +51,24 @@ class TheConsole(PageCase):
         self.browser.wait("document.querySelectorAll('#edits code').length === 3")
         self.wait_still()
 
+    def test_what_is_told_while_keys_are_typed(self) -> None:
+        """An edit was made, which is compared later; no example names what isn't there."""
+        examples = "['line', 'find-what', 'inspect-from'].map(it => field(it).placeholder)"
+        examples = examples.replace("field(it)", "document.getElementById(it)")
+        self.assertEqual(self.browser.value(examples), ["at 1000 key 101", "1000", "1000"])
+        self.assertIn("Once you make an edit", self.browser.text("#difference"))
+        self.begin()
+        self.browser.type("h")
+        self.wait_text("#difference", "Once the console ends, this says what its keys changed.")
+        self.wait_text("#events-count", "1 event")
+        (line,) = self.lines()
+        turn = int(line.split()[1])
+        self.assertEqual(self.browser.value(examples)[0], f"alter 1 {turn - 1} key 150")
+        self.assertIn("before the last edit", self.browser.text("#text-turn"))
+        self.browser.key("Tab")
+        self.wait_text("#difference", "The registers first differ before turn ")
+        self.wait_still()
+
     def test_it_runs_by_a_button_or_enter_while_it_has_the_focus(self) -> None:
         self.browser.value("document.querySelector('#speed').focus()")
         before = self.turn()
@@ -108,6 +126,25 @@ class TheSweep(PageCase):
         self.browser.wait("document.querySelectorAll('#edits li').length === 1")
         self.assertEqual(self.edits(), ["alter 15 126830 key 66"])
         self.assertIn("126820", self.browser.text("#outcomes"))
+
+    def test_an_event_is_not_moved_in_its_own_turn(self) -> None:
+        """There it comes before the other of its turn: the machine has the second key's byte."""
+        path = self.folder() / "two.session"
+        path.write_text("at 5 key 101\nat 5 key 102\nregs 8\n")
+        self.give(path)
+        self.fill("#sweep-event", "1")
+        self.fill("#sweep-question", "devices 8")
+        self.sweep(4, 6)
+        self.wait_text("#sweep-status", "3 of 3 turns")
+        rows = self.browser.value(
+            "[...document.querySelectorAll('#outcomes tbody tr')].map(it => it.innerText)"
+        )
+        lines = ["at 5 key 101", "at 5 key 102", "devices 8", "alter 1 6 key 101", "devices 8"]
+        *_, unmoved, _, later = replies_of(lines)
+        self.assertIn("TKB 000102", unmoved)
+        self.assertIn("TKB 000101", later)
+        turns = [it.split("\t")[1] for it in rows]
+        self.assertEqual(turns, ["4 to 5", "6 to 6"])
 
     def test_it_can_be_stopped(self) -> None:
         self.sweep(100_000, 119_000)

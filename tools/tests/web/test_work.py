@@ -106,6 +106,17 @@ class LongQuestions(PageCase):
         self.browser.click("#stop")
         self.wait_text("#reply", "Stopped")
 
+    def test_a_list_of_transfers_or_reads_is_asked_in_parts(self) -> None:
+        """Panels don't wait for it."""
+        for asked in f"transfers 0 {LAST}", f"reads 0 {LAST} 157776":
+            self.fill("#line", asked)
+            self.browser.key("Enter")
+            self.wait_text("#work-text", f"of {LAST} turns")
+            self.go(5_000 + len(asked))
+            self.wait_text("#instructions", f"{4_999 + len(asked)}")
+            self.browser.click("#stop")
+            self.wait_text("#reply", "Stopped")
+
     def test_a_search_goes_back_to_the_first_turn(self) -> None:
         """The instruction at 1000 is run in turn 0 alone."""
         self.assertIn("latest 0", self.type_line("latest 0 200000 at 1000").split(": ")[1])
