@@ -120,6 +120,12 @@ class OnArm64(Tree):
         self.path = path_without(self.folder / "more", "rt", "wasm2c")
         self.assertMakesNoC("wasm2c (Debian's wabt) isn't installed")
 
+    def test_a_file_that_is_there_stays(self) -> None:
+        self.write("pdp11.c", "mine\n")
+        ended = self.run_in("tools/portable", "--c", "pdp11")
+        self.assertEqual((ended.stderr, ended.returncode), ("portable: pdp11.c: File exists\n", 1))
+        self.assertEqual((self.tree / "pdp11.c").read_text(), "mine\n")
+
     def test_words_that_are_wrong(self) -> None:
         for text in "", "--c", "--c rt", "--verify pdp11", "--c pdp11 a b":
             words = text.split()
