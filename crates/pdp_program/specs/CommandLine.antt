@@ -1,6 +1,6 @@
 -- What the words of the command line ask for [P].
 use Rattle.std.specs.Prelude.{◌≡◌, ◌≢◌, List, [], ◌∷◌, map, Option, Some, None, Result, Ok, Err}
-use Rattle.std.specs.Prelude.{◌⊎◌, Bool, codes, option_map, string_bytes}
+use Rattle.std.specs.Prelude.{◌⊎◌, Bool, false, true, codes, option_map, string_bytes}
 use Rattle.clap.specs.Words.{App, Kinds, IsAmong, Row, Rule, Text, first_of, matches_of, new_app}
 use Rattle.clap.specs.Words.{new_rule, with_rule}
 use Rattle.clap.specs.declared.builder.action.ArgAction.TheVariants.{Set}
@@ -41,7 +41,8 @@ with_numbers app = with_rule (with_rule (with_rule app (option_rule (codes "unit
 
 -- with -V and --version, or without
 abbrev pub with_version : Bool → App → App
-with_version has_version app = record app { top = record app.top { has_version = has_version } }
+with_version true app = record app { top = record app.top { has_version = true } }
+with_version false app = app
 
 -- the options of a program of this name, beside which clap knows -h and --help, and -V and
 -- --version if it has these

@@ -167,7 +167,8 @@ fn matches_of<'a, S: AsStr>(
 }
 
 fn command<'a>(alloc: Global, program: Program<'a>) -> Result<Command<'a>, AllocError>
-    ensures { IfOk result (λ command. app_of command ≡ command_of program.entry) }
+    ensures { IfOk result (λ command. app_of command
+        ≡ command_line (is_some program.entry.version) program.entry.name.now) }
 {
     let command = Command::new(alloc, program.name)
         .about(program.about)
