@@ -15,6 +15,8 @@ _nezdrab_search() {
 --stride
 -h
 --help
+-V
+--version
 --version'
     local word=${COMP_WORDS[COMP_CWORD]} before=${COMP_WORDS[COMP_CWORD - 1]} IFS=$'\n'
     if [[ $word == = ]]; then
