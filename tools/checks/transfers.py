@@ -139,7 +139,7 @@ class Disk:
         begun = [it for it in self.idle if after <= it < turn][-1:]
         return (
             f"{turn} {begun[0] if begun else 'before'} {now.function} {now.drive} "
-            f"{now.first_word:07o} {now.address:06o} {done.words} {done.errors:06o}"
+            f"{now.first_word:07o} {now.address & ~1:06o} {done.words} {done.errors:06o}"
         )
 
 

@@ -12,9 +12,8 @@ SECTIONS
 {
     .text.bursts : SUBALIGN(8) {
         . = ALIGN(32) + 16; *(".text.pdp_cpu::*::burst::<#48a8*")
+        . = ALIGN(32) + 16; *(".text.pdp_cpu::*::burst::<#a468*")
         . = ALIGN(32) + 16; *(".text.pdp_cpu::*::burst_before::<#48a8*")
-        . = ALIGN(32) + 16; *(".text.pdp_cpu::*::burst_before::<#a468*")
-        . = ALIGN(32) + 24; *(".text.pdp_cpu::*::burst_to_write::<#48a8*")
         . = ALIGN(32) + 8; *(".text.pdp_cpu::*::burst_to_write::<#a468*")
     }
     .text : SUBALIGN(32) { *(.text .text.*) }
