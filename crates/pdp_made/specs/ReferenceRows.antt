@@ -1,0 +1,194 @@
+-- What a reference reads is made of, and what it changes: PDP-11 Peripherals Handbook, Unibus, KL11
+-- and PC11; DEC PDP-11/40 Processor Handbook (1972), General registers, Processor status word and
+-- Switch register. How bytes are written is [P].
+use Rattle.std.specs.Prelude.{ℕ, ◌%◌, ◌==◌, List, [], ◌∷◌, ◌++◌, Result, Ok, Err, length}
+use Rattle.std.specs.Prelude.{if◌then◌else◌}
+use Rattle.pdp_word.specs.declared.size.Size.{Size}
+use Rattle.pdp_word.specs.declared.size.Size.TheVariants.{Word, Byte}
+use Rattle.pdp_kt11.specs.declared.place.Abort.{Abort}
+use Rattle.pdp_console.specs.declared.kl.KlRegister.TheVariants.{KeyboardBuffer, PrinterBuffer}
+use Rattle.pdp_tape.specs.declared.pc11.Pc11Register.TheVariants.{ReaderStatus, ReaderBuffer}
+use Rattle.pdp_tape.specs.declared.pc11.Pc11Register.TheVariants.{PunchBuffer}
+use Rattle.pdp_io_page.specs.declared.register.Register.{Register}
+use Rattle.pdp_io_page.specs.declared.register.Register.TheVariants as register
+use Rattle.pdp_unibus.specs.Handbook.BusWorld.{BusWorld}
+use Rattle.pdp_unibus.specs.Handbook.Cycle.{Slave, Core, Device, Nobody, slave_at}
+use Rattle.pdp_operand.specs.Handbook.Reference.{Kind, ReadWord, ReadByte, WriteWord, WriteByte}
+use Rattle.pdp_operand.specs.Handbook.Reference.{Reference, translation}
+use Rattle.pdp_operand.specs.declared.place.Fill.{Fill}
+use Rattle.pdp_operand.specs.declared.place.Fill.TheVariants as fill
+use Rattle.pdp_operand.specs.declared.processor.RegisterId.{RegisterId}
+use Rattle.pdp_operand.specs.declared.processor.RegisterId.TheVariants.{R0, R1, R2, R3, R4, R5}
+use Rattle.pdp_operand.specs.declared.processor.RegisterId.TheVariants.{KernelStack, ProgramCounter}
+use Rattle.pdp_operand.specs.declared.processor.RegisterId.TheVariants.{UserStack}
+use Rattle.pdp_made.specs.Cells.{Half, Low, High, DataCell, CoreByte, RegisterByte, CodeNow}
+use Rattle.pdp_made.specs.Cells.{Buffer, Keyboard, Printer, Reader, Switches, Punch}
+use Rattle.pdp_made.specs.Cells.{ConditionCode, Negative, Zero, Overflow, Carry}
+use Rattle.pdp_made.specs.PhaseRows.{of_itself}
+
+-- of which cells each half of a word is made
+abbrev pub Halves : Type 0
+Halves = Half → List DataCell
+
+-- of no cell, of these cells for each half, and of which cells the whole word is made
+abbrev pub of_nothing : Halves
+of_nothing half = []
+
+abbrev pub of_each : List DataCell → Halves
+of_each cells half = cells
+
+abbrev pub whole_of : Halves → List DataCell
+whole_of from = from Low ++ from High
+
+-- of a byte only the low half is made of anything
+abbrev pub cut_to : Size → Halves → Halves
+cut_to Word from half = from half
+cut_to Byte from Low = from Low
+cut_to Byte from High = []
+
+-- the four codes
+abbrev pub each_code : (ConditionCode → DataCell) → List DataCell
+each_code cell = cell Negative ∷ cell Zero ∷ cell Overflow ∷ cell Carry ∷ []
+
+-- Registers
+
+-- the halves of a register: PC is no data
+abbrev pub halves_of : RegisterId → Halves
+halves_of ProgramCounter half = []
+halves_of R0 half = RegisterByte 0 half ∷ []
+halves_of R1 half = RegisterByte 1 half ∷ []
+halves_of R2 half = RegisterByte 2 half ∷ []
+halves_of R3 half = RegisterByte 3 half ∷ []
+halves_of R4 half = RegisterByte 4 half ∷ []
+halves_of R5 half = RegisterByte 5 half ∷ []
+halves_of KernelStack half = RegisterByte 6 half ∷ []
+halves_of UserStack half = RegisterByte 7 half ∷ []
+
+-- a register is made of these, and every other cell as it is without that
+abbrev pub place_changed : ℕ → Halves → (DataCell → List DataCell) → DataCell → List DataCell
+place_changed k from others (RegisterByte n half) =
+    if n == k then from half else others (RegisterByte n half)
+place_changed k from others c = others c
+
+abbrev pub register_changed : RegisterId → Halves → (DataCell → List DataCell) → DataCell
+    → List DataCell
+register_changed ProgramCounter from others c = others c
+register_changed R0 from others c = place_changed 0 from others c
+register_changed R1 from others c = place_changed 1 from others c
+register_changed R2 from others c = place_changed 2 from others c
+register_changed R3 from others c = place_changed 3 from others c
+register_changed R4 from others c = place_changed 4 from others c
+register_changed R5 from others c = place_changed 5 from others c
+register_changed KernelStack from others c = place_changed 6 from others c
+register_changed UserStack from others c = place_changed 7 from others c
+
+-- the halves of a word in which a byte replaced one half
+abbrev pub with_low_byte : Halves → Halves → Halves
+with_low_byte old from Low = from Low
+with_low_byte old from High = old High ++ from High
+
+abbrev pub with_high_byte : Halves → Halves → Halves
+with_high_byte old from Low = old Low
+with_high_byte old from High = whole_of from
+
+abbrev pub extended_byte : Halves → Halves
+extended_byte from Low = from Low
+extended_byte from High = whole_of from
+
+-- the halves of a register that was filled [3.14]
+abbrev pub halves_filled : Fill → Halves → Halves → Halves
+halves_filled fill.Whole old from = from
+halves_filled fill.LowByte old from = with_low_byte old from
+halves_filled fill.Extended old from = extended_byte from
+
+-- Reads
+
+-- what a register of the bus is read of: no register but these has data
+abbrev pub cells_of_device : Register → List DataCell
+cells_of_device register.ProgramStatus = each_code CodeNow
+cells_of_device (register.Console KeyboardBuffer) = Buffer Keyboard ∷ []
+cells_of_device (register.PaperTape ReaderBuffer) = Buffer Reader ∷ []
+cells_of_device register.Switches = Buffer Switches ∷ []
+cells_of_device register = []
+
+abbrev pub halves_at : Slave → Halves
+halves_at (Core k) half = CoreByte k half ∷ []
+halves_at (Device register) half = cells_of_device register
+halves_at Nobody half = []
+
+-- the half of a word that is at this address [1.4]
+abbrev pub half_of_address : ℕ → Half
+half_of_address physical = if physical % 2 == 0 then Low else High
+
+-- a byte is the half of its address, whichever half of it is asked for
+abbrev pub halves_read : Kind → ℕ → Halves → Halves
+halves_read ReadWord physical from half = from half
+halves_read ReadByte physical from half = from (half_of_address physical)
+halves_read (WriteWord word) physical from half = []
+halves_read (WriteByte byte) physical from half = []
+
+abbrev pub halves_if_placed : Kind → BusWorld → Result ℕ Abort → Halves
+halves_if_placed kind b (Ok physical) half =
+    halves_read kind physical (halves_at (slave_at (length b.core) physical)) half
+halves_if_placed kind b (Err abort) half = []
+
+-- what a reference reads
+abbrev pub halves_referred : Reference → BusWorld → Halves
+halves_referred r b half = halves_if_placed r.kind b (translation r b).address half
+
+-- Writes
+
+abbrev pub with_byte_at : Half → Halves → Halves → Halves
+with_byte_at Low old from = with_low_byte old from
+with_byte_at High old from = with_high_byte old from
+
+-- the word after a write of a word, or of a byte to the half of its address
+abbrev pub halves_put : Kind → ℕ → Halves → Halves → Halves
+halves_put ReadWord physical old from = old
+halves_put ReadByte physical old from = old
+halves_put (WriteWord word) physical old from = from
+halves_put (WriteByte byte) physical old from = with_byte_at (half_of_address physical) old from
+
+-- whether a write puts its byte into a buffer that takes the low half alone [6.32]
+abbrev pub buffer_put : Kind → ℕ → DataCell → Halves → List DataCell
+buffer_put ReadWord physical buffer from = buffer ∷ []
+buffer_put ReadByte physical buffer from = buffer ∷ []
+buffer_put (WriteWord word) physical buffer from = from Low
+buffer_put (WriteByte byte) physical buffer from =
+    if physical % 2 == 0 then from Low else buffer ∷ []
+
+-- a write to a register of the bus: the program status word takes the codes [2.9], the printer's
+-- and the punch's buffer the byte [6.43] [6.45], and go of the reader may clear PRB [6.62]
+abbrev pub device_changed : Kind → ℕ → Register → Halves → DataCell → List DataCell
+device_changed kind physical register.ProgramStatus from (CodeNow code) =
+    halves_put kind physical (of_each (each_code CodeNow)) from Low
+device_changed kind physical (register.Console PrinterBuffer) from (Buffer Printer) =
+    buffer_put kind physical (Buffer Printer) from
+device_changed kind physical (register.PaperTape PunchBuffer) from (Buffer Punch) =
+    buffer_put kind physical (Buffer Punch) from
+device_changed kind physical (register.PaperTape ReaderStatus) from (Buffer Reader) =
+    Buffer Reader ∷ whole_of (halves_put kind physical of_nothing from)
+device_changed kind physical register from c = c ∷ []
+
+-- a write to a word of core
+abbrev pub core_changed : Kind → ℕ → ℕ → Halves → DataCell → List DataCell
+core_changed kind physical k from (CoreByte n half) =
+    if n == k then halves_put kind physical (λ other. CoreByte k other ∷ []) from half
+    else CoreByte n half ∷ []
+core_changed kind physical k from c = c ∷ []
+
+abbrev pub slave_changed : Kind → ℕ → Slave → Halves → DataCell → List DataCell
+slave_changed kind physical (Core k) from c = core_changed kind physical k from c
+slave_changed kind physical (Device register) from c =
+    device_changed kind physical register from c
+slave_changed kind physical Nobody from c = c ∷ []
+
+abbrev pub changed_if_placed : Kind → BusWorld → Result ℕ Abort → Halves → DataCell
+    → List DataCell
+changed_if_placed kind b (Ok physical) from c =
+    slave_changed kind physical (slave_at (length b.core) physical) from c
+changed_if_placed kind b (Err abort) from c = c ∷ []
+
+-- what a reference that writes changes, if what it writes is made of these
+abbrev pub changed_by_reference : Reference → BusWorld → Halves → DataCell → List DataCell
+changed_by_reference r b from c = changed_if_placed r.kind b (translation r b).address from c
