@@ -1,0 +1,4 @@
+pub mod Halves
+pub mod Registers
+pub mod Frames
+pub mod Readings

@@ -189,6 +189,13 @@ changed_if_placed kind b (Ok physical) from c =
     slave_changed kind physical (slave_at (length b.core) physical) from c
 changed_if_placed kind b (Err abort) from c = c ∷ []
 
--- what a reference that writes changes, if what it writes is made of these
+-- what a reference that writes changes, if what it writes is made of these: a word of core, the
+-- codes, or a buffer
 abbrev pub changed_by_reference : Reference → BusWorld → Halves → DataCell → List DataCell
-changed_by_reference r b from c = changed_if_placed r.kind b (translation r b).address from c
+changed_by_reference r b from (CoreByte k half) =
+    changed_if_placed r.kind b (translation r b).address from (CoreByte k half)
+changed_by_reference r b from (CodeNow code) =
+    changed_if_placed r.kind b (translation r b).address from (CodeNow code)
+changed_by_reference r b from (Buffer buffer) =
+    changed_if_placed r.kind b (translation r b).address from (Buffer buffer)
+changed_by_reference r b from c = c ∷ []
