@@ -2,3 +2,4 @@ pub mod Halves
 pub mod Registers
 pub mod Frames
 pub mod Readings
+pub mod Writings
