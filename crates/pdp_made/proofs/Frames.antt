@@ -7,7 +7,15 @@ use Rattle.pdp_operand.specs.Handbook.Operand.{with_stack_trap_if}
 use Rattle.pdp_operand.specs.Phases.Phase.{Phase, State, Stop, step, stop_at, internal_phase}
 use Rattle.pdp_operand.specs.Phases.World.{World, world}
 use Rattle.pdp_operand.specs.declared.processor.Processor.{Processor}
-use Rattle.pdp_made.specs.Cells.{AreAlike, BusData, Data, DataCell, CoreByte, DriveByte, RegisterByte, CodeNow, Buffer, ValueByte, SourceByte, ResultByte, StatusByte, CodeDue, CodeSaved, EachSame, Same, SameShape, bus_with, data_at, data_of, data_on, processor_with, with_data}
+use Rattle.pdp_operand.specs.declared.processor.RegisterId.{RegisterId}
+use Rattle.pdp_made.specs.Cells.{AreAlike, BusData, Data, DataCell, CoreByte, DriveByte, RegisterByte, CodeNow, Buffer, ConditionCode, DeviceBuffer, Keyboard, Printer, Reader, Punch, Switches, flag_in, held_in, ValueByte, SourceByte, ResultByte, StatusByte, CodeDue, CodeSaved, EachSame, Same, SameShape, bus_with, data_at, data_of, data_on, processor_with, with_data}
+use Rattle.pdp_made.specs.EffectRows.{EffectCells, value_halves}
+use Rattle.pdp_made.specs.InstructionRows.{both_changed, codes_changed, effect_changed, result_changed, source_changed}
+use Rattle.pdp_made.specs.OperandRows.{value_changed}
+use Rattle.pdp_made.specs.ReferenceRows.{Halves, register_changed}
+use Rattle.pdp_made.specs.TrapRows.{status_changed}
+use Rattle.pdp_made.proofs.Halves.{HalvesTell}
+use Rattle.pdp_made.proofs.Registers.{WordsTell}
 use Rattle.pdp_made.specs.PhaseRows.{IsSoundRow, PhaseRow, Tells, TellsEnds, of_itself}
 
 -- The law of a row, with the other state written as the one with other data.
@@ -43,14 +51,137 @@ lost_tells d e (StatusByte half) all = refl
 lost_tells d e (CodeDue code) all = refl
 lost_tells d e (CodeSaved code) all = all.0
 
--- the same bus, as an equation says
-pub on_same_bus : (made : DataCell → List DataCell) (d e u t : Data) (x y : BusData) → x ≡ u.bus → y ≡ t.bus → Tells made d e u t
-    → Tells made d e (record u { bus = x }) (record t { bus = y })
-on_same_bus made d e u t x y other one tells =
-    subst (λ m. Tells made d e (record u { bus = m }) (record t { bus = y })) (sym other)
-    (subst (λ m. Tells made d e u (record t { bus = m })) (sym one) tells)
+-- the same bus and the same registers, as equations say
+pub on_same : (made : DataCell → List DataCell) (d e u t : Data) (x y : BusData) (ws vs : List ℕ) → x ≡ u.bus → y ≡ t.bus → ws ≡ u.words → vs ≡ t.words
+    → Tells made d e u t → Tells made d e (record u { bus = x; words = ws }) (record t { bus = y; words = vs })
+on_same made d e u t x y ws vs there here registers words tells =
+    subst (λ m. Tells made d e (record u { bus = m; words = ws }) (record t { bus = y; words = vs })) (sym there)
+    (subst (λ m. Tells made d e (record u { words = ws }) (record t { bus = m; words = vs })) (sym here)
+    (subst (λ m. Tells made d e (record u { words = m }) (record t { words = vs })) (sym registers)
+    (subst (λ m. Tells made d e u (record t { words = m })) (sym words) tells)))
 
 -- a stack trap that is pending is no data
 pub words_marking : (marks : Bool) (p : Processor) → (with_stack_trap_if marks p).words ≡ p.words
 words_marking true p = refl
 words_marking false p = refl
+
+-- One part of the data changes.
+module _ (d e : Data) where
+  pub words_changed : (id : RegisterId) (from : Halves) (ws vs : List ℕ) → WordsTell d e (register_changed id from of_itself) ws vs
+      → Tells (register_changed id from of_itself) d e (record d { words = ws }) (record e { words = vs })
+  words_changed id from ws vs tells (CoreByte k half) all = all.0
+  words_changed id from ws vs tells (DriveByte n k half) all = all.0
+  words_changed id from ws vs tells (RegisterByte n half) all = tells n half all
+  words_changed id from ws vs tells (CodeNow code) all = all.0
+  words_changed id from ws vs tells (Buffer buffer) all = all.0
+  words_changed id from ws vs tells (ValueByte half) all = all.0
+  words_changed id from ws vs tells (SourceByte half) all = all.0
+  words_changed id from ws vs tells (ResultByte half) all = all.0
+  words_changed id from ws vs tells (StatusByte half) all = all.0
+  words_changed id from ws vs tells (CodeDue code) all = all.0
+  words_changed id from ws vs tells (CodeSaved code) all = all.0
+
+  pub value_is : (from : Halves) (b a : ℕ) → HalvesTell d e from b a → Tells (value_changed from) d e (record d { value = b }) (record e { value = a })
+  value_is from b a tells (CoreByte k half) all = all.0
+  value_is from b a tells (DriveByte n k half) all = all.0
+  value_is from b a tells (RegisterByte n half) all = all.0
+  value_is from b a tells (CodeNow code) all = all.0
+  value_is from b a tells (Buffer buffer) all = all.0
+  value_is from b a tells (ValueByte half) all = tells half all
+  value_is from b a tells (SourceByte half) all = all.0
+  value_is from b a tells (ResultByte half) all = all.0
+  value_is from b a tells (StatusByte half) all = all.0
+  value_is from b a tells (CodeDue code) all = all.0
+  value_is from b a tells (CodeSaved code) all = all.0
+
+  pub source_is : (b a : ℕ) → HalvesTell d e value_halves b a → Tells source_changed d e (record d { source = b }) (record e { source = a })
+  source_is b a tells (CoreByte k half) all = all.0
+  source_is b a tells (DriveByte n k half) all = all.0
+  source_is b a tells (RegisterByte n half) all = all.0
+  source_is b a tells (CodeNow code) all = all.0
+  source_is b a tells (Buffer buffer) all = all.0
+  source_is b a tells (ValueByte half) all = all.0
+  source_is b a tells (SourceByte half) all = tells half all
+  source_is b a tells (ResultByte half) all = all.0
+  source_is b a tells (StatusByte half) all = all.0
+  source_is b a tells (CodeDue code) all = all.0
+  source_is b a tells (CodeSaved code) all = all.0
+
+  pub both_are : (from : Halves) (b a : ℕ) → HalvesTell d e from b a
+      → Tells (both_changed from) d e (record d { value = b; source = b }) (record e { value = a; source = a })
+  both_are from b a tells (CoreByte k half) all = all.0
+  both_are from b a tells (DriveByte n k half) all = all.0
+  both_are from b a tells (RegisterByte n half) all = all.0
+  both_are from b a tells (CodeNow code) all = all.0
+  both_are from b a tells (Buffer buffer) all = all.0
+  both_are from b a tells (ValueByte half) all = tells half all
+  both_are from b a tells (SourceByte half) all = tells half all
+  both_are from b a tells (ResultByte half) all = all.0
+  both_are from b a tells (StatusByte half) all = all.0
+  both_are from b a tells (CodeDue code) all = all.0
+  both_are from b a tells (CodeSaved code) all = all.0
+
+  pub result_is : (from : Halves) (b a : ℕ) → HalvesTell d e from b a → Tells (result_changed from) d e (record d { result = b }) (record e { result = a })
+  result_is from b a tells (CoreByte k half) all = all.0
+  result_is from b a tells (DriveByte n k half) all = all.0
+  result_is from b a tells (RegisterByte n half) all = all.0
+  result_is from b a tells (CodeNow code) all = all.0
+  result_is from b a tells (Buffer buffer) all = all.0
+  result_is from b a tells (ValueByte half) all = all.0
+  result_is from b a tells (SourceByte half) all = all.0
+  result_is from b a tells (ResultByte half) all = tells half all
+  result_is from b a tells (StatusByte half) all = all.0
+  result_is from b a tells (CodeDue code) all = all.0
+  result_is from b a tells (CodeSaved code) all = all.0
+
+  pub status_is : (from : Halves) (b a : ℕ) → HalvesTell d e from b a → Tells (status_changed from) d e (record d { status = b }) (record e { status = a })
+  status_is from b a tells (CoreByte k half) all = all.0
+  status_is from b a tells (DriveByte n k half) all = all.0
+  status_is from b a tells (RegisterByte n half) all = all.0
+  status_is from b a tells (CodeNow code) all = all.0
+  status_is from b a tells (Buffer buffer) all = all.0
+  status_is from b a tells (ValueByte half) all = all.0
+  status_is from b a tells (SourceByte half) all = all.0
+  status_is from b a tells (ResultByte half) all = all.0
+  status_is from b a tells (StatusByte half) all = tells half all
+  status_is from b a tells (CodeDue code) all = all.0
+  status_is from b a tells (CodeSaved code) all = all.0
+
+  -- each code is made of these
+  abbrev pub CodesTell : (ConditionCode → List DataCell) → Codes → Codes → Type 0
+  CodesTell from x y = (code : ConditionCode) → EachSame d e (from code) → flag_in code x ≡ flag_in code y
+
+  buffer_kept : (x y : Codes) (buffer : DeviceBuffer) → EachSame d e (Buffer buffer ∷ []) → held_in buffer (record d.bus { codes = x }) ≡ held_in buffer (record e.bus { codes = y })
+  buffer_kept x y Keyboard all = all.0
+  buffer_kept x y Printer all = all.0
+  buffer_kept x y Reader all = all.0
+  buffer_kept x y Punch all = all.0
+  buffer_kept x y Switches all = all.0
+
+  pub codes_are : (from : ConditionCode → List DataCell) (x y : Codes) → CodesTell from x y
+      → Tells (codes_changed from) d e (record d { bus = record d.bus { codes = x } }) (record e { bus = record e.bus { codes = y } })
+  codes_are from x y tells (CoreByte k half) all = all.0
+  codes_are from x y tells (DriveByte n k half) all = all.0
+  codes_are from x y tells (RegisterByte n half) all = all.0
+  codes_are from x y tells (CodeNow code) all = tells code all
+  codes_are from x y tells (Buffer buffer) all = buffer_kept x y buffer all
+  codes_are from x y tells (ValueByte half) all = all.0
+  codes_are from x y tells (SourceByte half) all = all.0
+  codes_are from x y tells (ResultByte half) all = all.0
+  codes_are from x y tells (StatusByte half) all = all.0
+  codes_are from x y tells (CodeDue code) all = all.0
+  codes_are from x y tells (CodeSaved code) all = all.0
+
+  pub effect_is : (cells : EffectCells) (b a : ℕ) (x y : Codes) → HalvesTell d e cells.value b a → CodesTell cells.codes x y
+      → Tells (effect_changed cells) d e (record d { result = b; due = Some x }) (record e { result = a; due = Some y })
+  effect_is cells b a x y value codes (CoreByte k half) all = all.0
+  effect_is cells b a x y value codes (DriveByte n k half) all = all.0
+  effect_is cells b a x y value codes (RegisterByte n half) all = all.0
+  effect_is cells b a x y value codes (CodeNow code) all = all.0
+  effect_is cells b a x y value codes (Buffer buffer) all = all.0
+  effect_is cells b a x y value codes (ValueByte half) all = all.0
+  effect_is cells b a x y value codes (SourceByte half) all = all.0
+  effect_is cells b a x y value codes (ResultByte half) all = value half all
+  effect_is cells b a x y value codes (StatusByte half) all = all.0
+  effect_is cells b a x y value codes (CodeDue code) all = codes code all
+  effect_is cells b a x y value codes (CodeSaved code) all = all.0

@@ -3,3 +3,5 @@ pub mod Registers
 pub mod Frames
 pub mod Readings
 pub mod Writings
+pub mod References
+pub mod OperandSteps

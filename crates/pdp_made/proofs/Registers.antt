@@ -7,7 +7,7 @@ use Rattle.pdp_operand.specs.declared.processor.Processor.{Processor}
 use Rattle.pdp_operand.specs.declared.processor.RegisterId.{RegisterId}
 use Rattle.pdp_operand.specs.declared.processor.RegisterId.TheVariants.{R0, R1, R2, R3, R4, R5, KernelStack, ProgramCounter, UserStack}
 use Rattle.pdp_made.specs.Cells.{Half, byte_in, Data, DataCell, RegisterByte, EachSame, processor_with}
-use Rattle.pdp_made.specs.ReferenceRows.{Halves, halves_of, place_changed, register_changed}
+use Rattle.pdp_made.specs.ReferenceRows.{Halves, halves_of, register_changed}
 use Rattle.pdp_made.proofs.Halves.{HalvesTell}
 
 -- the word at n after it was set in both lists
@@ -39,7 +39,8 @@ abbrev pub WordsTell : Data → Data → (DataCell → List DataCell) → List �
 WordsTell d e made ws vs = (n : ℕ) (half : Half) → EachSame d e (made (RegisterByte n half)) → byte_in half (slice_index ws n) ≡ byte_in half (slice_index vs n)
 
 module _ (d e : Data) (from : Halves) (others : DataCell → List DataCell) (a b : ℕ) (new : HalvesTell d e from b a) where
-  place_tells : (xs ys : List ℕ) (k : ℕ) → length ys ≡ length xs → WordsTell d e others ys xs → WordsTell d e (place_changed k from others) (slice_set ys k b) (slice_set xs k a)
+  place_tells : (xs ys : List ℕ) (k : ℕ) → length ys ≡ length xs → WordsTell d e others ys xs → (n : ℕ) (half : Half)
+      → EachSame d e (if n == k then from half else others (RegisterByte n half)) → byte_in half (slice_index (slice_set ys k b) n) ≡ byte_in half (slice_index (slice_set xs k a) n)
   place_tells xs ys k size old n half all =
       set_tells d e half (from half) (others (RegisterByte n half)) xs ys k n a b (n == k) refl size (new half) (old n half) all
 

@@ -1,7 +1,8 @@
 -- What a reference reads is made of, and what it changes: PDP-11 Peripherals Handbook, Unibus, KL11
 -- and PC11; DEC PDP-11/40 Processor Handbook (1972), General registers, Processor status word and
 -- Switch register. How bytes are written is [P].
-use Rattle.std.specs.Prelude.{ℕ, ◌%◌, ◌==◌, List, [], ◌∷◌, ◌++◌, Result, Ok, Err, length}
+use Rattle.std.specs.Prelude.{ℕ, ◌%◌, ◌==◌, Bool, false, List, [], ◌∷◌, ◌++◌, Result, Ok}
+use Rattle.std.specs.Prelude.{Err, length}
 use Rattle.std.specs.Prelude.{if◌then◌else◌}
 use Rattle.pdp_word.specs.declared.size.Size.{Size}
 use Rattle.pdp_word.specs.declared.size.Size.TheVariants.{Word, Byte}
@@ -64,23 +65,24 @@ halves_of R5 half = RegisterByte 5 half ∷ []
 halves_of KernelStack half = RegisterByte 6 half ∷ []
 halves_of UserStack half = RegisterByte 7 half ∷ []
 
--- a register is made of these, and every other cell as it is without that
-abbrev pub place_changed : ℕ → Halves → (DataCell → List DataCell) → DataCell → List DataCell
-place_changed k from others (RegisterByte n half) =
-    if n == k then from half else others (RegisterByte n half)
-place_changed k from others c = others c
+-- whether a register has this place among the words
+abbrev pub is_place_of : RegisterId → ℕ → Bool
+is_place_of ProgramCounter n = false
+is_place_of R0 n = n == 0
+is_place_of R1 n = n == 1
+is_place_of R2 n = n == 2
+is_place_of R3 n = n == 3
+is_place_of R4 n = n == 4
+is_place_of R5 n = n == 5
+is_place_of KernelStack n = n == 6
+is_place_of UserStack n = n == 7
 
+-- a register is made of these, and every other cell as it is without that
 abbrev pub register_changed : RegisterId → Halves → (DataCell → List DataCell) → DataCell
     → List DataCell
-register_changed ProgramCounter from others c = others c
-register_changed R0 from others c = place_changed 0 from others c
-register_changed R1 from others c = place_changed 1 from others c
-register_changed R2 from others c = place_changed 2 from others c
-register_changed R3 from others c = place_changed 3 from others c
-register_changed R4 from others c = place_changed 4 from others c
-register_changed R5 from others c = place_changed 5 from others c
-register_changed KernelStack from others c = place_changed 6 from others c
-register_changed UserStack from others c = place_changed 7 from others c
+register_changed id from others (RegisterByte n half) =
+    if is_place_of id n then from half else others (RegisterByte n half)
+register_changed id from others c = others c
 
 -- the halves of a word in which a byte replaced one half
 abbrev pub with_low_byte : Halves → Halves → Halves
