@@ -11,9 +11,10 @@ use Rattle.pdp_unibus.specs.Handbook.BusWorld.{BusWorld}
 use Rattle.pdp_action.specs.declared.trap.Trap.TheVariants.{StackLimit}
 use Rattle.pdp_decode.specs.declared.instruction.Specifier.{Specifier}
 use Rattle.pdp_decode.specs.declared.instruction.Specifier.TheVariants.{Register, Deferred, Autoincrement, AutoincrementDeferred, Autodecrement, AutodecrementDeferred, Index, IndexDeferred}
-use Rattle.pdp_operand.specs.Handbook.Operand.{codes_left, grow, index, indirect, is_lowered_to_red, lower, mode_now, name_register, named_register_id, point, read_before_write, read_operand, step_of, with_stack_trap_if, write_operand}
+use Rattle.pdp_operand.specs.Handbook.Operand.{codes_left, filled_register, grow, index, is_status, indirect, is_lowered_to_red, lower, mode_now, name_register, named_register_id, point, read_before_write, read_operand, step_of, with_stack_trap_if, write_operand}
 use Rattle.pdp_operand.specs.Handbook.Processor.{register_of, with_register}
 use Rattle.pdp_operand.specs.Handbook.RegisterId.{register_id_of}
+use Rattle.pdp_operand.specs.Handbook.Reference.{Reference, reference_to, translation}
 use Rattle.pdp_operand.specs.Phases.Phase.{Inner, Phase, State, Nothing, Raise, by_request, inner_of, step}
 use Rattle.pdp_operand.specs.declared.place.Cell as places
 use Rattle.pdp_operand.specs.declared.place.Fill.{Fill}
@@ -27,11 +28,11 @@ use Rattle.pdp_made.specs.Cells.{BusData, Data, DataCell, CoreByte, DriveByte, R
 use Rattle.pdp_made.specs.EffectRows.{going_up}
 use Rattle.pdp_made.specs.OperandRows.{changed_by_write, find_rows, grow_row, halves_of_operand, halves_of_result, keeps_data, lower_row, read_before_write_row, read_row, register_stepped, value_changed, write_row}
 use Rattle.pdp_made.specs.PhaseRows.{AreSoundRows, IsSoundRow, PhaseRow, Tells, TellsEnds, of_itself}
-use Rattle.pdp_made.specs.ReferenceRows.{Halves, cut_to, halves_filled, halves_of, register_changed}
+use Rattle.pdp_made.specs.ReferenceRows.{Halves, changed_by_reference, changed_if_placed, cut_to, halves_filled, halves_of, register_changed}
 use Rattle.pdp_made.proofs.Frames.{HoldsWithData, itself_tells, lost, lost_tells, on_same, sound_by, value_is, words_changed, words_marking}
 use Rattle.pdp_made.proofs.Halves.{HalvesTell, advanced_tells, cut_tells, extended_tells, low_byte_tells, retreated_tells}
 use Rattle.pdp_made.proofs.Readings.{read_at}
-use Rattle.pdp_made.proofs.References.{bus_made, read_step, write_step}
+use Rattle.pdp_made.proofs.References.{bus_made, here_after, read_step, there_after, write_step}
 use Rattle.pdp_made.proofs.Registers.{WordsTell, register_set, register_tells}
 use Rattle.pdp_made.proofs.Writings.{BusTells, put_kind}
 
@@ -143,3 +144,85 @@ reads_operand size = sound_by _ (λ saved s d log shape. read_at_place saved s d
 
 pub reads_before_write : (size : Size) → IsSoundRow (read_before_write_row size)
 reads_before_write size = sound_by _ (λ saved s d log shape. read_before_at saved s d log shape size s.latch.place)
+
+-- What a write changes of the bus, and the codes that are left to be stored
+abbrev DueTells : Data → Data → Option Codes → Option Codes → Type 0
+DueTells d e x y = (code : ConditionCode) → flag_due code d.due ≡ flag_due code e.due → flag_due code x ≡ flag_due code y
+
+module _ (d e : Data) (r : Reference) (b : BusWorld) (from : Halves) (made : DataCell → List DataCell) (x y : BusData) (tells : BusTells d e (λ c. changed_if_placed r.kind b (translation r b).address from c) x y)
+    (due left : Option Codes) (due_tells : DueTells d e due left) where
+  pub bus_changed : Tells (changed_by_reference r b from) d e (record d { bus = x; due = due }) (record e { bus = y; due = left })
+  bus_changed (CoreByte k half) all = tells.core k half all
+  bus_changed (DriveByte n k half) all = tells.drives n k half all
+  bus_changed (RegisterByte n half) all = all.0
+  bus_changed (CodeNow code) all = tells.codes code all
+  bus_changed (Buffer buffer) all = tells.buffers buffer all
+  bus_changed (ValueByte half) all = all.0
+  bus_changed (SourceByte half) all = all.0
+  bus_changed (ResultByte half) all = all.0
+  bus_changed (StatusByte half) all = all.0
+  bus_changed (CodeDue code) all = due_tells code all.0
+  bus_changed (CodeSaved code) all = all.0
+
+left_if : (status : Bool) (x y : Option Codes) (code : ConditionCode) → flag_due code x ≡ flag_due code y
+    → flag_due code (if status then None else x) ≡ flag_due code (if status then None else y)
+left_if true x y code same = refl
+left_if false x y code same = same
+
+module _ (saved : Codes) (s : State) (d : Data) (log : KeptCycles) (shape : SameShape d (data_of saved s)) where
+  result_there : HalvesTell d (e saved s d log shape) halves_of_result d.result s.latch.result
+  result_there half all = all.0
+
+  filled : (how : Fill) (id : RegisterId) → HalvesTell d (e saved s d log shape) (halves_filled how (halves_of id) halves_of_result)
+      (filled_register how (register_of (processor_with d.words s.world.processor) id) d.result) (filled_register how (register_of s.world.processor id) s.latch.result)
+  filled fill.Whole id = result_there
+  filled fill.LowByte id = low_byte_tells d (e saved s d log shape) (halves_of id) halves_of_result _ _ _ _ (register_tells d (e saved s d log shape) s.world.processor id) result_there
+  filled fill.Extended id = extended_tells d (e saved s d log shape) halves_of_result _ _ result_there
+
+  module _ (how : Fill) (cell : places.Cell) (size : Size) where
+    abbrev wrote : Reference
+    wrote = reference_to cell.mode (put_kind size s.latch.result) cell.address
+
+    resumed : (there after : BusWorld) (at : ℕ) → BusTells d (e saved s d log shape) (bus_made (write_operand how) of_itself saved (placed (Mem cell) s) d log shape halves_of_result size cell.mode cell.address s.latch.result d.result result_there) (data_on there) (data_on after)
+        → Tells (changed_by_reference wrote s.world.bus halves_of_result) d (e saved s d log shape)
+        (there_after (write_operand how) of_itself saved (placed (Mem cell) s) d log shape there at) (here_after (write_operand how) of_itself saved (placed (Mem cell) s) d log shape after at)
+    unfolding write_operand
+    resumed there after at tells = marked saved s d log shape cell.yellow (changed_by_reference wrote s.world.bus halves_of_result)
+        (record d { bus = data_on there; due = codes_left at d.due }) (record (e saved s d log shape) { bus = data_on after; due = codes_left at s.latch.codes }) (data_on there) (data_on after) refl refl refl refl
+        (bus_changed d (e saved s d log shape) wrote s.world.bus halves_of_result of_itself (data_on there) (data_on after) tells (codes_left at d.due) (codes_left at s.latch.codes) (left_if (is_status at) d.due s.latch.codes))
+
+  write_at : (how : Fill) (place : Place) → TellsEnds (changed_by_write how place s) of_itself saved d.saved d (e saved s d log shape) (step (write_operand how) (placed place s)) (step (write_operand how) (with_data d log (placed place s)))
+  unfolding write_operand
+  write_at how (Reg id) = words_changed d (e saved s d log shape) id (halves_filled how (halves_of id) halves_of_result) _ _
+      (register_set d (e saved s d log shape) (halves_filled how (halves_of id) halves_of_result) of_itself _ _ (filled how id) s.world.processor (processor_with d.words s.world.processor) id shape.words_size (λ n half all. all.0))
+  write_at fill.Whole (Mem cell) = write_step (write_operand fill.Whole) (changed_by_write fill.Whole (Mem cell) s) saved (placed (Mem cell) s) d log shape halves_of_result Word cell.mode cell.address s.latch.result d.result result_there
+      (resumed fill.Whole cell Word)
+  write_at fill.LowByte (Mem cell) = write_step (write_operand fill.LowByte) (changed_by_write fill.LowByte (Mem cell) s) saved (placed (Mem cell) s) d log shape halves_of_result Byte cell.mode cell.address s.latch.result d.result result_there
+      (resumed fill.LowByte cell Byte)
+  write_at fill.Extended (Mem cell) = write_step (write_operand fill.Extended) (changed_by_write fill.Extended (Mem cell) s) saved (placed (Mem cell) s) d log shape halves_of_result Byte cell.mode cell.address s.latch.result d.result result_there
+      (resumed fill.Extended cell Byte)
+
+pub writes_operand : (how : Fill) → IsSoundRow (write_row how)
+writes_operand how = sound_by _ (λ saved s d log shape. write_at saved s d log shape how s.latch.place)
+
+-- The rows of each addressing mode
+small_step_if : (high : Bool) → (if high then 2 else 1) < 257
+small_step_if true = omega arith
+small_step_if false = omega arith
+
+small_step : (size : Size) (r : ℕ) → step_of size r < 257
+small_step Word r = omega arith
+small_step Byte r = small_step_if (nat_le 6 r)
+
+two_is_small : 2 < 257
+two_is_small = omega arith
+
+pub find_sound : (size : Size) (spec : Specifier) → AreSoundRows (find_rows size spec)
+find_sound size (Register r) = (names r, tt)
+find_sound size (Deferred r) = (points r, tt)
+find_sound size (Autoincrement r) = (grows r (step_of size r), tt)
+find_sound size (AutoincrementDeferred r) = (grows r 2, (indirects, tt))
+find_sound size (Autodecrement r) = (lowers mode_now r (step_of size r) (small_step size r) (λ saved s d log shape. refl), tt)
+find_sound size (AutodecrementDeferred r) = (lowers mode_now r 2 two_is_small (λ saved s d log shape. refl), (indirects, tt))
+find_sound size (Index r) = (indexes r, tt)
+find_sound size (IndexDeferred r) = (indexes r, (indirects, tt))
