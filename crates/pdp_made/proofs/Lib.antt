@@ -5,3 +5,4 @@ pub mod Readings
 pub mod Writings
 pub mod References
 pub mod OperandSteps
+pub mod EffectSteps
