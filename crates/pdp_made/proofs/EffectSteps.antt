@@ -79,6 +79,9 @@ low_difference : (size : Size) (a b x y : ℕ) → a % 256 ≡ b % 256 → x % 2
 low_difference Word a b x y one other = omega (arith, one, other)
 low_difference Byte a b x y one other = omega (arith, one, other)
 
+low_swapped : (a b : ℕ) → a / 256 ≡ b / 256 → (a % 256 * 256 + a / 256) % 256 ≡ (b % 256 * 256 + b / 256) % 256
+low_swapped a b same = omega (arith, same)
+
 -- a shift to the right: the high half is made of the high half, and of the bit that comes in
 high_right : (top : Bool) (a b : ℕ) → a / 256 ≡ b / 256
     → ((if top then 32768 else 0) + a % 65536 / 2) % 65536 / 256 ≡ ((if top then 32768 else 0) + b % 65536 / 2) % 65536 / 256
@@ -96,7 +99,7 @@ top_same : (a b : ℕ) → a / 256 ≡ b / 256 → nat_le 32768 (a % 65536) ≡ 
 top_same a b same = top_if a b _ _ refl refl same
 
 module _ (d e : Data) where
-  abbrev EffectTells : EffectCells → Effect → Effect → Type 0
+  abbrev pub EffectTells : EffectCells → Effect → Effect → Type 0
   EffectTells cells x y = HalvesTell d e cells.value x.value y.value × CodesTell d e cells.codes x.codes y.codes
 
   -- an operand that is cut to its size
@@ -352,3 +355,48 @@ module _ (d e : Data) where
   asr_tells size = all_codes size going_down value_halves (moved_right size (d.value % span size) (is_negative size (d.value % span size))) (moved_right size (e.value % span size) (is_negative size (e.value % span size)))
       (down_value value_halves _ _ size (asr_high size) (λ all. ap (λ old. (moved_right size old (is_negative size old)).value) (old_same size all)))
       (λ all. ap (λ old. (moved_right size old (is_negative size old)).codes) (old_same size all))
+
+  swab_value : HalvesTell d e (exchanged_halves value_halves) (d.value % 256 * 256 + d.value / 256) (e.value % 256 * 256 + e.value / 256)
+  swab_value Low all = low_swapped d.value e.value all.0
+  swab_value High all = ap (λ w. (w % 256 * 256 + w / 256) / 256) (whole_tells d e value_halves d.value e.value value_tells all)
+
+  swab_tells : EffectTells (modification_cells modification.Swab) (swab_effect d.value) (swab_effect e.value)
+  unfolding swab_effect
+  swab_tells = (swab_value, codes)
+    where
+      codes : CodesTell d e (modification_cells modification.Swab).codes (swab_effect d.value).codes (swab_effect e.value).codes
+      codes Negative all = ap (is_negative Byte) (low_swapped d.value e.value all.0)
+      codes Zero all = ap (λ low. low == 0) (low_swapped d.value e.value all.0)
+      codes Overflow all = refl
+      codes Carry all = refl
+
+  pub modification_tells : (m : Modification) → EffectTells (modification_cells m) (modification_effect m d.value d.bus.codes) (modification_effect m e.value e.bus.codes)
+  modification_tells (modification.Com size) = com_tells size
+  modification_tells (modification.Inc size) = inc_tells size
+  modification_tells (modification.Dec size) = dec_tells size
+  modification_tells (modification.Neg size) = neg_tells size
+  modification_tells (modification.Adc size) = adc_tells size
+  modification_tells (modification.Sbc size) = sbc_tells size
+  modification_tells (modification.Ror size) = ror_tells size
+  modification_tells (modification.Rol size) = rol_tells size
+  modification_tells (modification.Asr size) = asr_tells size
+  modification_tells (modification.Asl size) = asl_tells size
+  modification_tells modification.Swab = swab_tells
+
+  clr_tells : (size : Size) → EffectTells (replacement_cells (replacement.Clr size)) (clr_effect size) (clr_effect size)
+  unfolding clr_effect
+  clr_tells size = (λ half all. refl, λ code all. refl)
+
+  sxt_tells : EffectTells (replacement_cells replacement.Sxt) (sxt_effect d.bus.codes) (sxt_effect e.bus.codes)
+  unfolding sxt_effect
+  sxt_tells = (λ half all. ap (λ n. byte_in half (if n then 65535 else 0)) all.0, codes)
+    where
+      codes : CodesTell d e (replacement_cells replacement.Sxt).codes (sxt_effect d.bus.codes).codes (sxt_effect e.bus.codes).codes
+      codes Negative all = all.0
+      codes Zero all = ap (λ n. not n) all.0
+      codes Overflow all = refl
+      codes Carry all = all.0
+
+  pub replacement_tells : (r : Replacement) → EffectTells (replacement_cells r) (replacement_effect r d.bus.codes) (replacement_effect r e.bus.codes)
+  replacement_tells (replacement.Clr size) = clr_tells size
+  replacement_tells replacement.Sxt = sxt_tells

@@ -6,3 +6,4 @@ pub mod Writings
 pub mod References
 pub mod OperandSteps
 pub mod EffectSteps
+pub mod InstructionSteps

@@ -40,7 +40,8 @@ abbrev pub with_carry : Halves → Halves
 with_carry from half = from half ++ carry_now
 
 -- how bits go from half to half: not at all; in a sum from the low half to the high one; in a shift
--- to the right from the high half to the low one; both ways in SWAB
+-- to the right from the high half to the low one; both ways in SWAB. Numbers have no bound here, so
+-- the new high half of SWAB may have more than the old low half.
 abbrev pub straight : Halves → Halves
 straight from = from
 
@@ -54,7 +55,7 @@ going_down from High = from High
 
 abbrev pub exchanged_halves : Halves → Halves
 exchanged_halves from Low = from High
-exchanged_halves from High = from Low
+exchanged_halves from High = whole_of from
 
 -- N and Z, V, and C are made of these
 abbrev pub made_codes : List DataCell → List DataCell → List DataCell → ConditionCode
