@@ -154,7 +154,7 @@ module _ (d e : Data) where
   source_tells : HalvesTell d e source_halves d.source e.source
   source_tells half all = all.0
 
-  value_tells : HalvesTell d e value_halves d.value e.value
+  pub value_tells : HalvesTell d e value_halves d.value e.value
   value_tells half all = all.0
 
   -- MOV, TST

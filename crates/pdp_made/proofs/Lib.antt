@@ -7,3 +7,4 @@ pub mod References
 pub mod OperandSteps
 pub mod EffectSteps
 pub mod InstructionSteps
+pub mod ExtendedSteps

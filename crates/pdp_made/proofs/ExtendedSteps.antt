@@ -1,0 +1,209 @@
+-- The rows of MUL, DIV, ASH and ASHC, and of RTI and RTT, are sound.
+use Rattle.std.proofs.Common.{◌≡◌, ◌∙◌, ℕ, ◌+◌, ◌-◌, ◌*◌, ◌/◌, ◌%◌, ◌==◌, Bool, true, false, List, [], ◌∷◌, ◌++◌, length, slice_index, slice_set, nat_lt, Option, None, Some, Result, Ok, Err, refl, ap, ap₂, sym, arith, get_or-set_same, get_or-set_other, if◌then◌else◌}
+use Rattle.std.proofs.lemmas.Bool.{eqb-true, eqb-false, ltb-true, ltb-false}
+use Rattle.std.proofs.lemmas.List.{set_past}
+use Rattle.std.specs.Fn.{iterate}
+use Rattle.pdp_word.specs.declared.codes.Codes.{Codes}
+use Rattle.pdp_word.specs.declared.size.Size.TheVariants.{Word}
+use Rattle.pdp_alu.specs.ArithmeticShifts.{ash_effect, ashc_effect, shifted_left, shifted_right, shifting_from}
+use Rattle.pdp_alu.specs.Division.{div_effect}
+use Rattle.pdp_alu.specs.Effect.{effect}
+use Rattle.pdp_alu.specs.Long.{high_word, join_words, low_word}
+use Rattle.pdp_alu.specs.Multiplication.{mul_effect}
+use Rattle.pdp_alu.specs.declared.effect.Effect.{Effect}
+use Rattle.pdp_alu.specs.declared.quotient.Div.{Div}
+use Rattle.pdp_alu.specs.declared.quotient.Div.TheVariants.{Done, Kept}
+use Rattle.pdp_kt11.specs.declared.mode.Mode.{Mode}
+use Rattle.pdp_store.specs.CycleLogs.{KeptCycles}
+use Rattle.pdp_io_page.specs.Handbook.Reset.{io_page_reset}
+use Rattle.pdp_io_page.specs.Handbook.Status.{status_codes, status_of_word}
+use Rattle.pdp_io_page.specs.declared.status.Status.{Status}
+use Rattle.pdp_unibus.specs.Handbook.BusWorld.{BusWorld}
+use Rattle.pdp_operand.specs.Handbook.Operand.{mode_now, named_register_id}
+use Rattle.pdp_operand.specs.Handbook.Processor.{register_of, with_register}
+use Rattle.pdp_operand.specs.Phases.Phase.{Inner, State, inner_of, step, with_inner}
+use Rattle.pdp_operand.specs.declared.processor.Processor.{Processor}
+use Rattle.pdp_operand.specs.declared.processor.RegisterId.{RegisterId}
+use Rattle.pdp_operand.specs.declared.processor.RegisterId.TheVariants.{R0, R1, R2, R3, R4, R5, KernelStack, ProgramCounter, UserStack}
+use Rattle.pdp_instruction.specs.Handbook.Control.{is_user, reset}
+use Rattle.pdp_instruction.specs.Handbook.Extended.{codes_of, divide, long_in, multiply, named_pair, pair_with_words, shift, shift_pair, with_quotient}
+use Rattle.pdp_instruction.specs.Handbook.ReturnFromTrap.{keep_counter, return_from_trap, returned_status, returned_to_user}
+use Rattle.pdp_instruction.specs.declared.pair.Pair.{Pair}
+use Rattle.pdp_made.specs.Cells.{byte_in, BusData, Data, DataCell, CoreByte, DriveByte, RegisterByte, CodeNow, Buffer, ValueByte, SourceByte, ResultByte, StatusByte, CodeDue, CodeSaved, EachSame, Half, Low, Same, SameShape, data_of, data_on, flag_due, flag_in, processor_with, with_data}
+use Rattle.pdp_made.specs.EffectRows.{value_halves}
+use Rattle.pdp_made.specs.InstructionRows.{codes_changed, divide_row, due_changed, multiply_row, pair_cells, pair_changed, return_from_trap_row, shift_cells, shift_pair_row, shift_row, with_operand_cells}
+use Rattle.pdp_made.specs.OperandRows.{keeps_data}
+use Rattle.pdp_made.specs.PhaseRows.{IsSoundRow, PhaseRow, Tells, of_itself}
+use Rattle.pdp_made.specs.ReferenceRows.{Halves, halves_of, of_each, register_changed, whole_of}
+use Rattle.pdp_made.proofs.EffectSteps.{value_tells}
+use Rattle.pdp_made.proofs.Frames.{CodesTell, codes_are, itself_tells, on_same, sound_by}
+use Rattle.pdp_made.proofs.Halves.{HalvesTell, codes_tell, each_back, each_front, each_tells, whole_tells}
+use Rattle.pdp_made.proofs.Registers.{WordsTell, register_set, register_tells, size_after}
+
+-- A register that is set to the word that it has
+same_if : (xs ys : List ℕ) (k n : ℕ) (top within : Bool) → (n == k) ≡ top → nat_lt k (length ys) ≡ within → ((j : ℕ) → slice_index ys j ≡ slice_index xs j)
+    → slice_index (slice_set ys k (slice_index xs k)) n ≡ slice_index xs n
+same_if xs ys k n true true top within same = rw (eqb-true n k top) (get_or-set_same ys k (slice_index xs k) 0 (ltb-true k (length ys) within))
+same_if xs ys k n true false top within same = rw (set_past ys k (slice_index xs k) (ltb-false k (length ys) within)) (same n)
+same_if xs ys k n false within top is same = get_or-set_other ys k n (slice_index xs k) 0 (eqb-false n k top) ∙ same n
+
+word_same : (xs ys : List ℕ) (k : ℕ) → ((j : ℕ) → slice_index ys j ≡ slice_index xs j) → (n : ℕ) → slice_index (slice_set ys k (slice_index xs k)) n ≡ slice_index xs n
+word_same xs ys k same n = same_if xs ys k n (n == k) (nat_lt k (length ys)) refl refl same
+
+register_same : (p q : Processor) (id : RegisterId) → ((j : ℕ) → slice_index q.words j ≡ slice_index p.words j) → (n : ℕ)
+    → slice_index (with_register q id (register_of p id)).words n ≡ slice_index p.words n
+unfolding with_register register_of
+register_same p q ProgramCounter same n = same n
+register_same p q R0 same n = word_same p.words q.words 0 same n
+register_same p q R1 same n = word_same p.words q.words 1 same n
+register_same p q R2 same n = word_same p.words q.words 2 same n
+register_same p q R3 same n = word_same p.words q.words 3 same n
+register_same p q R4 same n = word_same p.words q.words 4 same n
+register_same p q R5 same n = word_same p.words q.words 5 same n
+register_same p q KernelStack same n = word_same p.words q.words 6 same n
+register_same p q UserStack same n = word_same p.words q.words 7 same n
+
+-- quotient and remainder, or the registers as they were
+first_word : Div → Processor → Pair → ℕ
+first_word (Done quotient remainder codes) p pair = quotient
+first_word (Kept codes) p pair = register_of p pair.high
+
+second_word : Div → Processor → Pair → ℕ
+second_word (Done quotient remainder codes) p pair = remainder
+second_word (Kept codes) p pair = register_of p pair.low
+
+quotient_words : (div : Div) (p : Processor) (pair : Pair) (n : ℕ) → slice_index (pair_with_words p pair (first_word div p pair) (second_word div p pair)).words n ≡ slice_index (with_quotient p pair div).words n
+unfolding first_word second_word
+quotient_words (Done quotient remainder codes) p pair n = refl
+quotient_words (Kept codes) p pair n =
+    register_same p (with_register p pair.high (register_of p pair.high)) pair.low (register_same p p pair.high (λ j. refl)) n
+
+-- Registers of a pair, and the codes
+module _ (d e : Data) (pair : Pair) (from : List DataCell) where
+  abbrev made : DataCell → List DataCell
+  made c = pair_changed pair from c
+
+  due_is : (x y : Codes) → (EachSame d e from → x ≡ y) → (ws vs : List ℕ) → WordsTell d e made ws vs
+      → Tells made d e (record d { words = ws; due = Some x }) (record e { words = vs; due = Some y })
+  due_is x y codes ws vs tells (CoreByte k half) all = all.0
+  due_is x y codes ws vs tells (DriveByte n k half) all = all.0
+  due_is x y codes ws vs tells (RegisterByte n half) all = tells n half all
+  due_is x y codes ws vs tells (CodeNow code) all = all.0
+  due_is x y codes ws vs tells (Buffer buffer) all = all.0
+  due_is x y codes ws vs tells (ValueByte half) all = all.0
+  due_is x y codes ws vs tells (SourceByte half) all = all.0
+  due_is x y codes ws vs tells (ResultByte half) all = all.0
+  due_is x y codes ws vs tells (StatusByte half) all = all.0
+  due_is x y codes ws vs tells (CodeDue code) all = ap (flag_in code) (codes all)
+  due_is x y codes ws vs tells (CodeSaved code) all = all.0
+
+  pair_set : (p q : Processor) (first second one other : ℕ) → length q.words ≡ length p.words → WordsTell d e of_itself q.words p.words
+      → (EachSame d e from → first ≡ one) → (EachSame d e from → second ≡ other)
+      → WordsTell d e made (pair_with_words q pair first second).words (pair_with_words p pair one other).words
+  pair_set p q first second one other size kept same last =
+      register_set d e (of_each from) (register_changed pair.high (of_each from) (due_changed from)) other second (each_tells d e from second other last)
+      (with_register p pair.high one) (with_register q pair.high first) pair.low (size_after p q pair.high one first size)
+      (register_set d e (of_each from) (due_changed from) one first (each_tells d e from first one same) p q pair.high size kept)
+
+-- the other registers, in the words of the data
+module _ (saved : Codes) (s : State) (d : Data) (shape : SameShape d (data_of saved s)) where
+  abbrev e : Data
+  e = data_of saved s
+
+  abbrev there : Processor
+  there = processor_with d.words s.world.processor
+
+  abbrev here : Processor
+  here = s.world.processor
+
+  register_is : (id : RegisterId) → EachSame d e (whole_of (halves_of id)) → register_of there id ≡ register_of here id
+  register_is id all = whole_tells d e (halves_of id) (register_of there id) (register_of here id) (register_tells d e s.world.processor id) all
+
+  value_is : EachSame d e (whole_of value_halves) → d.value ≡ s.latch.value
+  value_is all = whole_tells d e value_halves d.value s.latch.value (value_tells d e) all
+
+  -- a register and the operand, and a pair and the operand
+  with_value : (id : RegisterId) → EachSame d e (with_operand_cells (halves_of id)) → register_of there id ≡ register_of here id
+  with_value id all = register_is id (each_front d e (whole_of (halves_of id)) (whole_of value_halves) all)
+
+  value_with : (id : RegisterId) → EachSame d e (with_operand_cells (halves_of id)) → d.value ≡ s.latch.value
+  value_with id all = value_is (each_back d e (whole_of (halves_of id)) (whole_of value_halves) all)
+
+  module _ (pair : Pair) where
+    pair_high : EachSame d e (pair_cells pair) → register_of there pair.high ≡ register_of here pair.high
+    pair_high all = register_is pair.high (each_front d e (whole_of (halves_of pair.high)) (with_operand_cells (halves_of pair.low)) all)
+
+    pair_low : EachSame d e (pair_cells pair) → register_of there pair.low ≡ register_of here pair.low
+    pair_low all = with_value pair.low (each_back d e (whole_of (halves_of pair.high)) (with_operand_cells (halves_of pair.low)) all)
+
+    pair_value : EachSame d e (pair_cells pair) → d.value ≡ s.latch.value
+    pair_value all = value_with pair.low (each_back d e (whole_of (halves_of pair.high)) (with_operand_cells (halves_of pair.low)) all)
+
+    long_same : EachSame d e (pair_cells pair) → long_in there pair ≡ long_in here pair
+    long_same all = ap₂ (λ high low. join_words high low) (pair_high all) (pair_low all)
+
+    -- the division
+    div_same : EachSame d e (pair_cells pair) → div_effect (long_in there pair) d.value ≡ div_effect (long_in here pair) s.latch.value
+    div_same all = ap₂ (λ long value. div_effect long value) (long_same all) (pair_value all)
+
+    first_same : EachSame d e (pair_cells pair) → first_word (div_effect (long_in there pair) d.value) there pair ≡ first_word (div_effect (long_in here pair) s.latch.value) here pair
+    unfolding first_word
+    first_same all = first_of_both (div_effect (long_in there pair) d.value) (div_effect (long_in here pair) s.latch.value) (div_same all) (pair_high all)
+      where
+        kept_or : Div → ℕ → ℕ
+        kept_or (Done quotient remainder codes) word = quotient
+        kept_or (Kept codes) word = word
+
+        is_kept_or : (div : Div) (p : Processor) → first_word div p pair ≡ kept_or div (register_of p pair.high)
+        is_kept_or (Done quotient remainder codes) p = refl
+        is_kept_or (Kept codes) p = refl
+
+        first_of_both : (x y : Div) → x ≡ y → register_of there pair.high ≡ register_of here pair.high → first_word x there pair ≡ first_word y here pair
+        first_of_both x y same word = is_kept_or x there ∙ ap₂ (λ div kept. kept_or div kept) same word ∙ sym (is_kept_or y here)
+
+    second_same : EachSame d e (pair_cells pair) → second_word (div_effect (long_in there pair) d.value) there pair ≡ second_word (div_effect (long_in here pair) s.latch.value) here pair
+    unfolding second_word
+    second_same all = second_of_both (div_effect (long_in there pair) d.value) (div_effect (long_in here pair) s.latch.value) (div_same all) (pair_low all)
+      where
+        kept_or : Div → ℕ → ℕ
+        kept_or (Done quotient remainder codes) word = remainder
+        kept_or (Kept codes) word = word
+
+        is_kept_or : (div : Div) (p : Processor) → second_word div p pair ≡ kept_or div (register_of p pair.low)
+        is_kept_or (Done quotient remainder codes) p = refl
+        is_kept_or (Kept codes) p = refl
+
+        second_of_both : (x y : Div) → x ≡ y → register_of there pair.low ≡ register_of here pair.low → second_word x there pair ≡ second_word y here pair
+        second_of_both x y same word = is_kept_or x there ∙ ap₂ (λ div kept. kept_or div kept) same word ∙ sym (is_kept_or y here)
+
+    quotient_tells : WordsTell d e (λ c. pair_changed pair (pair_cells pair) c) (with_quotient there pair (div_effect (long_in there pair) d.value)).words (with_quotient here pair (div_effect (long_in here pair) s.latch.value)).words
+    quotient_tells n half all =
+        sym (ap (byte_in half) (quotient_words (div_effect (long_in there pair) d.value) there pair n))
+        ∙ pair_set d e pair (pair_cells pair) here there _ _ _ _ shape.words_size (λ n half all. all.0) first_same second_same n half all
+        ∙ ap (byte_in half) (quotient_words (div_effect (long_in here pair) s.latch.value) here pair n)
+
+pub multiplies : (r : ℕ) → IsSoundRow (multiply_row r)
+unfolding multiply
+multiplies r = sound_by _ (λ saved s d log shape.
+    let id : RegisterId = named_register_id (inner_of s) r in
+    let pair : Pair = named_pair (inner_of s) r in
+    let from : List DataCell = with_operand_cells (halves_of id) in
+    due_is d (data_of saved s) pair from _ _ (λ all. ap₂ (λ word value. (mul_effect word value).codes) (with_value saved s d shape id all) (value_with saved s d shape id all)) _ _
+    (pair_set d (data_of saved s) pair from s.world.processor (processor_with d.words s.world.processor) _ _ _ _ shape.words_size (λ n half all. all.0)
+    (λ all. ap₂ (λ word value. high_word (mul_effect word value).value) (with_value saved s d shape id all) (value_with saved s d shape id all))
+    (λ all. ap₂ (λ word value. low_word (mul_effect word value).value) (with_value saved s d shape id all) (value_with saved s d shape id all))))
+
+pub divides : (r : ℕ) → IsSoundRow (divide_row r)
+unfolding divide
+divides r = sound_by _ (λ saved s d log shape.
+    let pair : Pair = named_pair (inner_of s) r in
+    due_is d (data_of saved s) pair (pair_cells pair) _ _ (λ all. ap codes_of (div_same saved s d shape pair all)) _ _ (quotient_tells saved s d shape pair))
+
+pub shifts_pair : (r : ℕ) → IsSoundRow (shift_pair_row r)
+unfolding shift_pair
+shifts_pair r = sound_by _ (λ saved s d log shape.
+    let pair : Pair = named_pair (inner_of s) r in
+    due_is d (data_of saved s) pair (pair_cells pair) _ _ (λ all. ap₂ (λ long value. (ashc_effect long value).codes) (long_same saved s d shape pair all) (pair_value saved s d shape pair all)) _ _
+    (pair_set d (data_of saved s) pair (pair_cells pair) s.world.processor (processor_with d.words s.world.processor) _ _ _ _ shape.words_size (λ n half all. all.0)
+    (λ all. ap₂ (λ long value. high_word (ashc_effect long value).value) (long_same saved s d shape pair all) (pair_value saved s d shape pair all))
+    (λ all. ap₂ (λ long value. low_word (ashc_effect long value).value) (long_same saved s d shape pair all) (pair_value saved s d shape pair all))))
