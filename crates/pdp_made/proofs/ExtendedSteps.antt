@@ -207,3 +207,83 @@ shifts_pair r = sound_by _ (λ saved s d log shape.
     (pair_set d (data_of saved s) pair (pair_cells pair) s.world.processor (processor_with d.words s.world.processor) _ _ _ _ shape.words_size (λ n half all. all.0)
     (λ all. ap₂ (λ long value. high_word (ashc_effect long value).value) (long_same saved s d shape pair all) (pair_value saved s d shape pair all))
     (λ all. ap₂ (λ long value. low_word (ashc_effect long value).value) (long_same saved s d shape pair all) (pair_value saved s d shape pair all))))
+
+-- ASH: the count is in the low half of the operand
+abbrev shifted_with : ℕ → ℕ → ℕ → Effect
+shifted_with sign word count =
+    let shifting = (if nat_lt count 32 then iterate (shifted_left sign) count (shifting_from word) else iterate (shifted_right sign) (64 - count) (shifting_from word)) in
+    effect Word shifting.number shifting.sign_changed shifting.out
+
+ash_is : (word source : ℕ) → ash_effect word source ≡ shifted_with 32768 word (source % 64)
+unfolding ash_effect
+ash_is word source = refl
+
+count_same : (a b : ℕ) → a % 256 ≡ b % 256 → a % 64 ≡ b % 64
+count_same a b same = omega (arith, same)
+
+ash_same : (a b x y : ℕ) → a ≡ b → x % 256 ≡ y % 256 → ash_effect a x ≡ ash_effect b y
+ash_same a b x y word source = ash_is a x ∙ ap₂ (λ w count. shifted_with 32768 w count) word (count_same x y source) ∙ sym (ash_is b y)
+
+module _ (d e : Data) (id : RegisterId) (from : List DataCell) where
+  abbrev one_made : DataCell → List DataCell
+  one_made c = register_changed id (of_each from) (due_changed from) c
+
+  due_of_one : (x y : Codes) → (EachSame d e from → x ≡ y) → (ws vs : List ℕ) → WordsTell d e one_made ws vs
+      → Tells one_made d e (record d { words = ws; due = Some x }) (record e { words = vs; due = Some y })
+  due_of_one x y codes ws vs tells (CoreByte k half) all = all.0
+  due_of_one x y codes ws vs tells (DriveByte n k half) all = all.0
+  due_of_one x y codes ws vs tells (RegisterByte n half) all = tells n half all
+  due_of_one x y codes ws vs tells (CodeNow code) all = all.0
+  due_of_one x y codes ws vs tells (Buffer buffer) all = all.0
+  due_of_one x y codes ws vs tells (ValueByte half) all = all.0
+  due_of_one x y codes ws vs tells (SourceByte half) all = all.0
+  due_of_one x y codes ws vs tells (ResultByte half) all = all.0
+  due_of_one x y codes ws vs tells (StatusByte half) all = all.0
+  due_of_one x y codes ws vs tells (CodeDue code) all = ap (flag_in code) (codes all)
+  due_of_one x y codes ws vs tells (CodeSaved code) all = all.0
+
+pub shifts : (r : ℕ) → IsSoundRow (shift_row r)
+unfolding shift
+shifts r = sound_by _ (λ saved s d log shape.
+    let id : RegisterId = named_register_id (inner_of s) r in
+    let from : List DataCell = shift_cells id in
+    let same : (EachSame d (data_of saved s) from → ash_effect (register_of (processor_with d.words s.world.processor) id) d.value ≡ ash_effect (register_of s.world.processor id) s.latch.value) =
+        λ all. ash_same _ _ d.value s.latch.value (register_is saved s d shape id (each_front d (data_of saved s) (whole_of (halves_of id)) (ValueByte Low ∷ []) all))
+        (each_back d (data_of saved s) (whole_of (halves_of id)) (ValueByte Low ∷ []) all).0 in
+    due_of_one d (data_of saved s) id from _ _ (λ all. ap (λ effect. effect.codes) (same all)) _ _
+    (register_set d (data_of saved s) (of_each from) (due_changed from) _ _ (each_tells d (data_of saved s) from _ _ (λ all. ap (λ effect. effect.value) (same all)))
+    s.world.processor (processor_with d.words s.world.processor) id shape.words_size (λ n half all. all.0)))
+
+-- RTI and RTT: the codes are those of the popped word
+returned_if : (user : Bool) (word : ℕ) (old : Status) → (if user then returned_to_user old (status_of_word word) else status_of_word word).codes ≡ status_codes word
+unfolding status_of_word
+returned_if true word old = refl
+returned_if false word old = refl
+
+returned_codes : (word : ℕ) (old : Status) → (returned_status word old).codes ≡ status_codes word
+unfolding returned_status
+returned_codes word old = returned_if (is_user old.mode) word old
+
+pub keeps_counter : IsSoundRow (keeps_data keep_counter)
+unfolding keep_counter
+keeps_counter = sound_by _ (λ saved s d log shape. itself_tells d (data_of saved s))
+
+pub returns_from_trap : IsSoundRow return_from_trap_row
+unfolding return_from_trap with_register
+returns_from_trap = sound_by _ (λ saved s d log shape. codes_are d (data_of saved s) (λ code. ValueByte Low ∷ [])
+    (returned_status d.value (record s.world.bus.io_page.status { codes = d.bus.codes })).codes (returned_status s.latch.value s.world.bus.io_page.status).codes
+    (λ code all. ap (flag_in code) (returned_codes d.value (record s.world.bus.io_page.status { codes = d.bus.codes })) ∙ codes_tell code d.value s.latch.value all.0
+    ∙ sym (ap (flag_in code) (returned_codes s.latch.value s.world.bus.io_page.status))))
+
+-- RESET leaves the buffers
+reset_if : (user : Bool) (saved : Codes) (s : State) (d : Data) (log : KeptCycles)
+    → Tells of_itself d (data_of saved s)
+    (data_of d.saved (with_inner (with_data d log s).world.bus (if user then inner_of (with_data d log s) else record (inner_of (with_data d log s)) { io_page = io_page_reset (inner_of (with_data d log s)).io_page })))
+    (data_of saved (with_inner s.world.bus (if user then inner_of s else record (inner_of s) { io_page = io_page_reset (inner_of s).io_page })))
+unfolding io_page_reset
+reset_if true saved s d log = itself_tells d (data_of saved s)
+reset_if false saved s d log = itself_tells d (data_of saved s)
+
+pub resets : IsSoundRow (keeps_data reset)
+unfolding reset
+resets = sound_by _ (λ saved s d log shape. reset_if (is_user (mode_now (inner_of s))) saved s d log)

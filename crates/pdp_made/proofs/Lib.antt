@@ -8,3 +8,4 @@ pub mod OperandSteps
 pub mod EffectSteps
 pub mod InstructionSteps
 pub mod ExtendedSteps
+pub mod TrapSteps

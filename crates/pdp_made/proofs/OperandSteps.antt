@@ -28,7 +28,7 @@ use Rattle.pdp_made.specs.Cells.{BusData, Data, DataCell, CoreByte, DriveByte, R
 use Rattle.pdp_made.specs.EffectRows.{going_up}
 use Rattle.pdp_made.specs.OperandRows.{changed_by_write, find_rows, grow_row, halves_of_operand, halves_of_result, keeps_data, lower_row, read_before_write_row, read_row, register_stepped, value_changed, write_row}
 use Rattle.pdp_made.specs.PhaseRows.{AreSoundRows, IsSoundRow, PhaseRow, Tells, TellsEnds, of_itself}
-use Rattle.pdp_made.specs.ReferenceRows.{Halves, changed_by_reference, changed_if_placed, cut_to, halves_filled, halves_of, register_changed}
+use Rattle.pdp_made.specs.ReferenceRows.{Halves, changed_by_reference, changed_if_placed, cut_to, halves_filled, halves_of, place_of_write, register_changed}
 use Rattle.pdp_made.proofs.Frames.{HoldsWithData, itself_tells, lost, lost_tells, on_same, sound_by, value_is, words_changed, words_marking}
 use Rattle.pdp_made.proofs.Halves.{HalvesTell, advanced_tells, cut_tells, extended_tells, low_byte_tells, retreated_tells}
 use Rattle.pdp_made.proofs.Readings.{read_at}
@@ -149,9 +149,9 @@ reads_before_write size = sound_by _ (λ saved s d log shape. read_before_at sav
 abbrev DueTells : Data → Data → Option Codes → Option Codes → Type 0
 DueTells d e x y = (code : ConditionCode) → flag_due code d.due ≡ flag_due code e.due → flag_due code x ≡ flag_due code y
 
-module _ (d e : Data) (r : Reference) (b : BusWorld) (from : Halves) (made : DataCell → List DataCell) (x y : BusData) (tells : BusTells d e (λ c. changed_if_placed r.kind b (translation r b).address from c) x y)
+module _ (d e : Data) (size : Size) (mode : Mode) (address : ℕ) (b : BusWorld) (from : Halves) (x y : BusData) (tells : BusTells d e (λ c. changed_if_placed size b (place_of_write mode address b) from c) x y)
     (due left : Option Codes) (due_tells : DueTells d e due left) where
-  pub bus_changed : Tells (changed_by_reference r b from) d e (record d { bus = x; due = due }) (record e { bus = y; due = left })
+  pub bus_changed : Tells (changed_by_reference size mode address b from) d e (record d { bus = x; due = due }) (record e { bus = y; due = left })
   bus_changed (CoreByte k half) all = tells.core k half all
   bus_changed (DriveByte n k half) all = tells.drives n k half all
   bus_changed (RegisterByte n half) all = all.0
@@ -180,16 +180,13 @@ module _ (saved : Codes) (s : State) (d : Data) (log : KeptCycles) (shape : Same
   filled fill.Extended id = extended_tells d (e saved s d log shape) halves_of_result _ _ result_there
 
   module _ (how : Fill) (cell : places.Cell) (size : Size) where
-    abbrev wrote : Reference
-    wrote = reference_to cell.mode (put_kind size s.latch.result) cell.address
-
     resumed : (there after : BusWorld) (at : ℕ) → BusTells d (e saved s d log shape) (bus_made (write_operand how) of_itself saved (placed (Mem cell) s) d log shape halves_of_result size cell.mode cell.address s.latch.result d.result result_there) (data_on there) (data_on after)
-        → Tells (changed_by_reference wrote s.world.bus halves_of_result) d (e saved s d log shape)
+        → Tells (changed_by_reference size cell.mode cell.address s.world.bus halves_of_result) d (e saved s d log shape)
         (there_after (write_operand how) of_itself saved (placed (Mem cell) s) d log shape there at) (here_after (write_operand how) of_itself saved (placed (Mem cell) s) d log shape after at)
     unfolding write_operand
-    resumed there after at tells = marked saved s d log shape cell.yellow (changed_by_reference wrote s.world.bus halves_of_result)
+    resumed there after at tells = marked saved s d log shape cell.yellow (changed_by_reference size cell.mode cell.address s.world.bus halves_of_result)
         (record d { bus = data_on there; due = codes_left at d.due }) (record (e saved s d log shape) { bus = data_on after; due = codes_left at s.latch.codes }) (data_on there) (data_on after) refl refl refl refl
-        (bus_changed d (e saved s d log shape) wrote s.world.bus halves_of_result of_itself (data_on there) (data_on after) tells (codes_left at d.due) (codes_left at s.latch.codes) (left_if (is_status at) d.due s.latch.codes))
+        (bus_changed d (e saved s d log shape) size cell.mode cell.address s.world.bus halves_of_result (data_on there) (data_on after) tells (codes_left at d.due) (codes_left at s.latch.codes) (left_if (is_status at) d.due s.latch.codes))
 
   write_at : (how : Fill) (place : Place) → TellsEnds (changed_by_write how place s) of_itself saved d.saved d (e saved s d log shape) (step (write_operand how) (placed place s)) (step (write_operand how) (with_data d log (placed place s)))
   unfolding write_operand

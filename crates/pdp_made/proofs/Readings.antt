@@ -110,7 +110,7 @@ module _ (d : Data) (log : KeptCycles) (b : BusWorld) (others : Data) where
   here = record others { bus = data_on b }
 
   value_by_slave : (size : Size) (physical turn drives : ℕ) (mapping : Kt) (slave : Slave)
-      → ValuesTell d here (halves_read (reading size) physical (halves_at slave))
+      → ValuesTell d here (halves_read size physical (halves_at slave))
       (reply_by (shape_at (reading size) physical turn drives (page_of mapping (bus_with d.bus log b)) slave) (bus_with d.bus log b)).value
       (reply_by (shape_at (reading size) physical turn drives (page_of mapping b) slave) b).value
   value_by_slave Word physical turn drives mapping (Core k) = λ half all. all.0
@@ -123,7 +123,7 @@ module _ (d : Data) (log : KeptCycles) (b : BusWorld) (others : Data) where
   value_by_slave Byte physical turn drives mapping Nobody = tt
 
   value_by_place : (size : Size) (turn drives : ℕ) (mapping : Kt) (place : Result ℕ Abort)
-      → ValuesTell d here (halves_if_placed (reading size) b place)
+      → ValuesTell d here (halves_if_placed size b place)
       (reply_by (shape_by (reading size) (length b.core) turn drives (page_of mapping (bus_with d.bus log b)) place) (bus_with d.bus log b)).value
       (reply_by (shape_by (reading size) (length b.core) turn drives (page_of mapping b) place) b).value
   value_by_place Word turn drives mapping (Ok physical) = value_by_slave Word physical turn drives mapping (slave_at (length b.core) physical)
@@ -131,22 +131,25 @@ module _ (d : Data) (log : KeptCycles) (b : BusWorld) (others : Data) where
   value_by_place Word turn drives mapping (Err abort) = tt
   value_by_place Byte turn drives mapping (Err abort) = tt
 
-  module _ (core_size : length d.bus.core ≡ length b.core) (drives_count : length d.bus.drives ≡ length b.drives) (size : Size) (mode : Mode) (address : ℕ) where
-    value_if_odd : (odd : Bool)
-        → ValuesTell d here (halves_referred (read_at size mode address) b)
+  module _ (core_size : length d.bus.core ≡ length b.core) (drives_count : length d.bus.drives ≡ length b.drives) (mode : Mode) (address : ℕ) where
+    value_if_odd : (size : Size) (odd : Bool)
+        → ValuesTell d here (halves_referred size mode address b)
         (reply_by (shape_if odd (read_at size mode address) (bus_with d.bus log b)) (bus_with d.bus log b)).value
         (reply_by (shape_if odd (read_at size mode address) b) b).value
-    value_if_odd true = tt
-    value_if_odd false =
+    value_if_odd size true = tt
+    value_if_odd Word false =
         rw (core_size, drives_count)
-        (value_by_place size b.turn (length b.drives) (translation (read_at size mode address) b).after (translation (read_at size mode address) b).address)
+        (value_by_place Word b.turn (length b.drives) (translation (read_at Word mode address) b).after (translation (read_at Word mode address) b).address)
+    value_if_odd Byte false =
+        rw (core_size, drives_count)
+        (value_by_place Byte b.turn (length b.drives) (translation (read_at Byte mode address) b).after (translation (read_at Byte mode address) b).address)
 
-    value_of_shape : ValuesTell d here (halves_referred (read_at size mode address) b)
+    value_of_shape : (size : Size) → ValuesTell d here (halves_referred size mode address b)
         (reply_by (shape_of (read_at size mode address) (bus_with d.bus log b)) (bus_with d.bus log b)).value
         (reply_by (shape_of (read_at size mode address) b) b).value
     unfolding shape_of
-    value_of_shape = value_if_odd (is_odd (reading size) address)
+    value_of_shape size = value_if_odd size (is_odd (reading size) address)
 
-    pub read_tells : ValuesTell d here (halves_referred (read_at size mode address) b)
+    pub read_tells : (size : Size) → ValuesTell d here (halves_referred size mode address b)
         (perform (read_at size mode address) (bus_with d.bus log b)).value (perform (read_at size mode address) b).value
-    read_tells = rw (perform_is (read_at size mode address) (bus_with d.bus log b), perform_is (read_at size mode address) b) value_of_shape
+    read_tells size = rw (perform_is (read_at size mode address) (bus_with d.bus log b), perform_is (read_at size mode address) b) (value_of_shape size)

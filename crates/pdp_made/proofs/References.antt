@@ -10,7 +10,7 @@ use Rattle.pdp_operand.specs.Handbook.Reference.{Reference, perform, translation
 use Rattle.pdp_operand.specs.Phases.Phase.{Phase, State, after_answer, after_reply, inner_of, state_of, with_inner}
 use Rattle.pdp_made.specs.Cells.{BusData, Data, DataCell, SameShape, bus_with, data_of, data_on, latch_with_data, processor_with, with_data}
 use Rattle.pdp_made.specs.PhaseRows.{Tells, TellsEnds, of_itself}
-use Rattle.pdp_made.specs.ReferenceRows.{Halves, changed_if_placed, halves_referred}
+use Rattle.pdp_made.specs.ReferenceRows.{Halves, changed_if_placed, halves_referred, place_of_write}
 use Rattle.pdp_made.proofs.Frames.{lost, lost_tells, on_same}
 use Rattle.pdp_made.proofs.Halves.{HalvesTell}
 use Rattle.pdp_made.proofs.Readings.{ValuesTell, read_at, read_keeps_data, read_tells}
@@ -40,10 +40,10 @@ module _ (p : Phase) (made : DataCell → List DataCell) (saved : Codes) (s : St
 
   module _ (size : Size) (mode : Mode) (address : ℕ)
       (resumed : (there after : BusWorld) (b a : ℕ) → data_on there ≡ d.bus → data_on after ≡ data_on s.world.bus
-      → HalvesTell d (data_of saved s) (halves_referred (read_at size mode address) s.world.bus) b a
+      → HalvesTell d (data_of saved s) (halves_referred size mode address s.world.bus) b a
       → Tells made d (data_of saved s) (there_after there b) (here_after after a)) where
     answered : (there after : BusWorld) (other value : Result ℕ Trap) → data_on there ≡ d.bus → data_on after ≡ data_on s.world.bus
-        → ValuesTell d (data_of saved s) (halves_referred (read_at size mode address) s.world.bus) other value
+        → ValuesTell d (data_of saved s) (halves_referred size mode address s.world.bus) other value
         → TellsEnds made of_itself saved d.saved d (data_of saved s) (after_answer p (here_with after) value) (after_answer p (there_with there) other)
     answered there after (Ok b) (Ok a) there_same here_same tells = resumed there after b a there_same here_same tells
     answered there after (Ok b) (Err trap) there_same here_same tells = tt
@@ -55,12 +55,11 @@ module _ (p : Phase) (made : DataCell → List DataCell) (saved : Codes) (s : St
         (after_reply p (with_data d log s) (perform (read_at size mode address) (bus_with d.bus log s.world.bus)))
     read_step = answered (perform (read_at size mode address) (bus_with d.bus log s.world.bus)).after (perform (read_at size mode address) s.world.bus).after _ _
         (read_keeps_data size mode address (bus_with d.bus log s.world.bus)) (read_keeps_data size mode address s.world.bus)
-        (read_tells d log s.world.bus (data_of saved s) shape.core_size shape.drives_count size mode address)
+        (read_tells d log s.world.bus (data_of saved s) shape.core_size shape.drives_count mode address size)
 
   module _ (from : Halves) (size : Size) (mode : Mode) (address one other : ℕ) (new : HalvesTell d (data_of saved s) from other one) where
     abbrev pub bus_made : DataCell → List DataCell
-    bus_made c = changed_if_placed (put_kind size one) s.world.bus
-        (translation (put_here d log s.world.bus (data_of saved s) shape.core_size shape.drives_count from one other new mode address size) s.world.bus).address from c
+    bus_made c = changed_if_placed size s.world.bus (place_of_write mode address s.world.bus) from c
 
     module _ (resumed : (there after : BusWorld) (at : ℕ) → BusTells d (data_of saved s) bus_made (data_on there) (data_on after)
         → Tells made d (data_of saved s) (there_after there at) (here_after after at)) where

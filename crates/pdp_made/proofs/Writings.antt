@@ -25,7 +25,7 @@ use Rattle.pdp_action.specs.declared.trap.Trap.{Trap}
 use Rattle.pdp_operand.specs.Handbook.Reference.{Kind, WriteWord, WriteByte, Reference, Reply, is_odd, perform, reference_to, translation}
 use Rattle.pdp_operand.proofs.Shape.{reply_by, shape_at, shape_by, shape_if, shape_of, perform_is}
 use Rattle.pdp_made.specs.Cells.{Half, Low, High, byte_in, BusData, ConditionCode, flag_in, Data, DataCell, CoreByte, DriveByte, CodeNow, Buffer, DeviceBuffer, Keyboard, Printer, Reader, Punch, Switches, held_in, EachSame, SameShape, bus_with, data_on, io_page_with}
-use Rattle.pdp_made.specs.ReferenceRows.{Halves, buffer_put, cells_of_device, changed_by_reference, changed_if_placed, device_changed, half_of_address, halves_put, of_each, slave_changed, whole_of, with_byte_at}
+use Rattle.pdp_made.specs.ReferenceRows.{Halves, buffer_put, cells_of_device, changed_by_reference, changed_if_placed, device_changed, half_of_address, halves_put, of_each, place_of_write, slave_changed, whole_of, with_byte_at}
 use Rattle.pdp_made.proofs.Halves.{HalvesTell, codes_same, codes_tell, each_tells, high_byte_tells, low_byte_tells, whole_tells}
 use Rattle.pdp_made.proofs.Readings.{device_tells}
 use Rattle.pdp_made.proofs.Registers.{set_tells}
@@ -53,10 +53,10 @@ byte_at_tells d e true old from x y a b was new = low_byte_tells d e old from x 
 byte_at_tells d e false old from x y a b was new = high_byte_tells d e old from x y a b was new
 
 -- a word with its byte replaced, or a word
-pub put_tells : (d e : Data) (size : Size) (physical : ℕ) (old from : Halves) (x y a b k : ℕ) → HalvesTell d e old x y → HalvesTell d e from a b
-    → HalvesTell d e (halves_put (put_kind size k) physical old from) (elim size as (λ _. ℕ) [ Word ↦ a | Byte ↦ word_with_byte x physical a ]) (elim size as (λ _. ℕ) [ Word ↦ b | Byte ↦ word_with_byte y physical b ])
-put_tells d e Word physical old from x y a b k was new = new
-put_tells d e Byte physical old from x y a b k was new = byte_at_tells d e (physical % 2 == 0) old from x y a b was new
+pub put_tells : (d e : Data) (size : Size) (physical : ℕ) (old from : Halves) (x y a b : ℕ) → HalvesTell d e old x y → HalvesTell d e from a b
+    → HalvesTell d e (halves_put size physical old from) (elim size as (λ _. ℕ) [ Word ↦ a | Byte ↦ word_with_byte x physical a ]) (elim size as (λ _. ℕ) [ Word ↦ b | Byte ↦ word_with_byte y physical b ])
+put_tells d e Word physical old from x y a b was new = new
+put_tells d e Byte physical old from x y a b was new = byte_at_tells d e (physical % 2 == 0) old from x y a b was new
 
 -- A byte on its way to the printer or the punch
 byte_if : (byte : ℕ) (busy : Bool) (x y : Transmitter) → x.byte ≡ byte → y.byte ≡ byte → (if busy then x else y).byte ≡ byte
@@ -84,11 +84,11 @@ module _ (d : Data) (log : KeptCycles) (b : BusWorld) (others : Data) where
     -- a word is written to a register
     module _ (w : Halves) (one other : ℕ) (new : HalvesTell d here w other one) where
       abbrev WordTells : Register → Type 0
-      WordTells r = BusTells d here (device_changed (WriteWord one) physical r w)
+      WordTells r = BusTells d here (device_changed Word physical r w)
           (data_on (record other_bus { io_page = after_write r other turn (page_of mapping other_bus) }))
           (data_on (record b { io_page = after_write r one turn (page_of mapping b) }))
 
-      printed : (buffer : DeviceBuffer) → EachSame d here (device_changed (WriteWord one) physical (register.Console PrinterBuffer) w (Buffer buffer))
+      printed : (buffer : DeviceBuffer) → EachSame d here (device_changed Word physical (register.Console PrinterBuffer) w (Buffer buffer))
           → held_in buffer (data_on (record other_bus { io_page = after_write (register.Console PrinterBuffer) other turn (page_of mapping other_bus) }))
           ≡ held_in buffer (data_on (record b { io_page = after_write (register.Console PrinterBuffer) one turn (page_of mapping b) }))
       unfolding after_write
@@ -98,7 +98,7 @@ module _ (d : Data) (log : KeptCycles) (b : BusWorld) (others : Data) where
       printed Punch all = all.0
       printed Switches all = all.0
 
-      punched : (buffer : DeviceBuffer) → EachSame d here (device_changed (WriteWord one) physical (register.PaperTape PunchBuffer) w (Buffer buffer))
+      punched : (buffer : DeviceBuffer) → EachSame d here (device_changed Word physical (register.PaperTape PunchBuffer) w (Buffer buffer))
           → held_in buffer (data_on (record other_bus { io_page = after_write (register.PaperTape PunchBuffer) other turn (page_of mapping other_bus) }))
           ≡ held_in buffer (data_on (record b { io_page = after_write (register.PaperTape PunchBuffer) one turn (page_of mapping b) }))
       unfolding after_write
@@ -111,7 +111,7 @@ module _ (d : Data) (log : KeptCycles) (b : BusWorld) (others : Data) where
       abbrev byte_left : ℕ → ℕ → ℕ
       byte_left word byte = (reader_status_written word turn b.io_page.delays.reader (record b.io_page.paper_tape.reader { byte = byte })).byte
 
-      begun : (buffer : DeviceBuffer) → EachSame d here (device_changed (WriteWord one) physical (register.PaperTape ReaderStatus) w (Buffer buffer))
+      begun : (buffer : DeviceBuffer) → EachSame d here (device_changed Word physical (register.PaperTape ReaderStatus) w (Buffer buffer))
           → held_in buffer (data_on (record other_bus { io_page = after_write (register.PaperTape ReaderStatus) other turn (page_of mapping other_bus) }))
           ≡ held_in buffer (data_on (record b { io_page = after_write (register.PaperTape ReaderStatus) one turn (page_of mapping b) }))
       unfolding after_write
@@ -153,7 +153,7 @@ module _ (d : Data) (log : KeptCycles) (b : BusWorld) (others : Data) where
     -- a byte is written to a register
     module _ (from : Halves) (one other : ℕ) (new : HalvesTell d here from other one) where
       abbrev byte_halves : Register → Halves
-      byte_halves r = halves_put (WriteByte one) physical (of_each (cells_of_device r)) from
+      byte_halves r = halves_put Byte physical (of_each (cells_of_device r)) from
 
       abbrev byte_here : Register → ℕ
       byte_here r = word_with_byte (value_in r (length b.drives) (page_of mapping b)) physical one
@@ -167,7 +167,7 @@ module _ (d : Data) (log : KeptCycles) (b : BusWorld) (others : Data) where
           (each_tells d here (cells_of_device r) _ _ (device_tells d here r (length b.drives) (page_of mapping b))) new
 
       abbrev ByteTells : Register → Type 0
-      ByteTells r = BusTells d here (device_changed (WriteByte one) physical r from)
+      ByteTells r = BusTells d here (device_changed Byte physical r from)
           (data_on (record other_bus { io_page = after_byte r (length b.drives) physical other turn (page_of mapping other_bus) }))
           (data_on (record b { io_page = after_byte r (length b.drives) physical one turn (page_of mapping b) }))
 
@@ -188,7 +188,7 @@ module _ (d : Data) (log : KeptCycles) (b : BusWorld) (others : Data) where
       kept_if true buffer is all = absurd (true≢false is)
       kept_if false buffer is all = all
 
-      printer_buffers : physical % 2 == 0 ≡ true → (buffer : DeviceBuffer) → EachSame d here (device_changed (WriteByte one) physical (register.Console PrinterBuffer) from (Buffer buffer))
+      printer_buffers : physical % 2 == 0 ≡ true → (buffer : DeviceBuffer) → EachSame d here (device_changed Byte physical (register.Console PrinterBuffer) from (Buffer buffer))
           → held_in buffer (data_on (record other_bus { io_page = after_write (register.Console PrinterBuffer) (byte_there (register.Console PrinterBuffer)) turn (page_of mapping other_bus) }))
           ≡ held_in buffer (data_on (record b { io_page = after_write (register.Console PrinterBuffer) (byte_here (register.Console PrinterBuffer)) turn (page_of mapping b) }))
       unfolding after_write value_in
@@ -198,7 +198,7 @@ module _ (d : Data) (log : KeptCycles) (b : BusWorld) (others : Data) where
       printer_buffers is Punch all = all.0
       printer_buffers is Switches all = all.0
 
-      printer_kept : physical % 2 == 0 ≡ false → (buffer : DeviceBuffer) → EachSame d here (device_changed (WriteByte one) physical (register.Console PrinterBuffer) from (Buffer buffer)) → held_in buffer d.bus ≡ held_in buffer (data_on b)
+      printer_kept : physical % 2 == 0 ≡ false → (buffer : DeviceBuffer) → EachSame d here (device_changed Byte physical (register.Console PrinterBuffer) from (Buffer buffer)) → held_in buffer d.bus ≡ held_in buffer (data_on b)
       printer_kept is Printer all = (kept_if (physical % 2 == 0) (Buffer Printer) is all).0
       printer_kept is Keyboard all = all.0
       printer_kept is Reader all = all.0
@@ -213,11 +213,11 @@ module _ (d : Data) (log : KeptCycles) (b : BusWorld) (others : Data) where
 
       printer_tells : ByteTells (register.Console PrinterBuffer)
       unfolding after_byte
-      printer_tells = by_even (physical % 2 == 0) (device_changed (WriteByte one) physical (register.Console PrinterBuffer) from) _ _ _ _
+      printer_tells = by_even (physical % 2 == 0) (device_changed Byte physical (register.Console PrinterBuffer) from) _ _ _ _
           (λ is. record { core = λ k half all. all.0; drives = λ n k half all. all.0; codes = printer_codes; buffers = printer_buffers is })
           (λ is. record { core = λ k half all. all.0; drives = λ n k half all. all.0; codes = λ code all. all.0; buffers = printer_kept is })
 
-      punch_buffers : physical % 2 == 0 ≡ true → (buffer : DeviceBuffer) → EachSame d here (device_changed (WriteByte one) physical (register.PaperTape PunchBuffer) from (Buffer buffer))
+      punch_buffers : physical % 2 == 0 ≡ true → (buffer : DeviceBuffer) → EachSame d here (device_changed Byte physical (register.PaperTape PunchBuffer) from (Buffer buffer))
           → held_in buffer (data_on (record other_bus { io_page = after_write (register.PaperTape PunchBuffer) (byte_there (register.PaperTape PunchBuffer)) turn (page_of mapping other_bus) }))
           ≡ held_in buffer (data_on (record b { io_page = after_write (register.PaperTape PunchBuffer) (byte_here (register.PaperTape PunchBuffer)) turn (page_of mapping b) }))
       unfolding after_write value_in
@@ -227,7 +227,7 @@ module _ (d : Data) (log : KeptCycles) (b : BusWorld) (others : Data) where
       punch_buffers is Printer all = all.0
       punch_buffers is Switches all = all.0
 
-      punch_kept : physical % 2 == 0 ≡ false → (buffer : DeviceBuffer) → EachSame d here (device_changed (WriteByte one) physical (register.PaperTape PunchBuffer) from (Buffer buffer)) → held_in buffer d.bus ≡ held_in buffer (data_on b)
+      punch_kept : physical % 2 == 0 ≡ false → (buffer : DeviceBuffer) → EachSame d here (device_changed Byte physical (register.PaperTape PunchBuffer) from (Buffer buffer)) → held_in buffer d.bus ≡ held_in buffer (data_on b)
       punch_kept is Punch all = (kept_if (physical % 2 == 0) (Buffer Punch) is all).0
       punch_kept is Keyboard all = all.0
       punch_kept is Reader all = all.0
@@ -242,7 +242,7 @@ module _ (d : Data) (log : KeptCycles) (b : BusWorld) (others : Data) where
 
       punch_tells : ByteTells (register.PaperTape PunchBuffer)
       unfolding after_byte
-      punch_tells = by_even (physical % 2 == 0) (device_changed (WriteByte one) physical (register.PaperTape PunchBuffer) from) _ _ _ _
+      punch_tells = by_even (physical % 2 == 0) (device_changed Byte physical (register.PaperTape PunchBuffer) from) _ _ _ _
           (λ is. record { core = λ k half all. all.0; drives = λ n k half all. all.0; codes = punch_codes; buffers = punch_buffers is })
           (λ is. record { core = λ k half all. all.0; drives = λ n k half all. all.0; codes = λ code all. all.0; buffers = punch_kept is })
 
@@ -280,12 +280,12 @@ module _ (d : Data) (log : KeptCycles) (b : BusWorld) (others : Data) where
   module _ (core_size : length d.bus.core ≡ length b.core) (drives_count : length d.bus.drives ≡ length b.drives) (from : Halves) (one other : ℕ) (new : HalvesTell d here from other one) where
     -- a word of core
     core_tells : (size : Size) (physical k n : ℕ) (half : Half)
-        → EachSame d here (if n == k then halves_put (put_kind size one) physical (λ at. CoreByte k at ∷ []) from half else CoreByte n half ∷ [])
+        → EachSame d here (if n == k then halves_put size physical (λ at. CoreByte k at ∷ []) from half else CoreByte n half ∷ [])
         → byte_in half (slice_index (slice_set d.bus.core k (elim size as (λ _. ℕ) [ Word ↦ other | Byte ↦ word_with_byte (slice_index d.bus.core k) physical other ])) n)
         ≡ byte_in half (slice_index (slice_set b.core k (elim size as (λ _. ℕ) [ Word ↦ one | Byte ↦ word_with_byte (slice_index b.core k) physical one ])) n)
     core_tells size physical k n half all =
-        set_tells d here half (halves_put (put_kind size one) physical (λ at. CoreByte k at ∷ []) from half) (CoreByte n half ∷ []) b.core d.bus.core k n _ _ (n == k) refl core_size
-        (put_tells d here size physical (λ at. CoreByte k at ∷ []) from (slice_index d.bus.core k) (slice_index b.core k) other one one (λ at same. same.0) new half)
+        set_tells d here half (halves_put size physical (λ at. CoreByte k at ∷ []) from half) (CoreByte n half ∷ []) b.core d.bus.core k n _ _ (n == k) refl core_size
+        (put_tells d here size physical (λ at. CoreByte k at ∷ []) from (slice_index d.bus.core k) (slice_index b.core k) other one (λ at same. same.0) new half)
         (λ same. same.0) all
 
     buffers_kept : (there at : List ℕ) (buffer : DeviceBuffer) → EachSame d here (Buffer buffer ∷ [])
@@ -297,7 +297,7 @@ module _ (d : Data) (log : KeptCycles) (b : BusWorld) (others : Data) where
     buffers_kept there at Switches all = all.0
 
     by_slave : (size : Size) (physical turn : ℕ) (mapping : Kt) (slave : Slave)
-        → RepliesTell (slave_changed (put_kind size one) physical slave from)
+        → RepliesTell (slave_changed size physical slave from)
         (reply_by (shape_at (put_kind size other) physical turn (length b.drives) (page_of mapping other_bus) slave) other_bus).value
         (reply_by (shape_at (put_kind size one) physical turn (length b.drives) (page_of mapping b) slave) b).value
         (reply_by (shape_at (put_kind size other) physical turn (length b.drives) (page_of mapping other_bus) slave) other_bus).after
@@ -316,7 +316,7 @@ module _ (d : Data) (log : KeptCycles) (b : BusWorld) (others : Data) where
     by_slave Byte physical turn mapping Nobody = record { there_kept = refl; here_kept = refl }
 
     by_place : (size : Size) (turn : ℕ) (mapping : Kt) (place : Result ℕ Abort)
-        → RepliesTell (changed_if_placed (put_kind size one) b place from)
+        → RepliesTell (changed_if_placed size b place from)
         (reply_by (shape_by (put_kind size other) (length b.core) turn (length b.drives) (page_of mapping other_bus) place) other_bus).value
         (reply_by (shape_by (put_kind size one) (length b.core) turn (length b.drives) (page_of mapping b) place) b).value
         (reply_by (shape_by (put_kind size other) (length b.core) turn (length b.drives) (page_of mapping other_bus) place) other_bus).after
@@ -332,15 +332,16 @@ module _ (d : Data) (log : KeptCycles) (b : BusWorld) (others : Data) where
       put_here size = reference_to mode (put_kind size one) address
 
       by_odd : (size : Size) (odd : Bool)
-          → RepliesTell (changed_if_placed (put_kind size one) b (translation (put_here size) b).address from)
+          → RepliesTell (changed_if_placed size b (place_of_write mode address b) from)
           (reply_by (shape_if odd (put_there size) other_bus) other_bus).value (reply_by (shape_if odd (put_here size) b) b).value
           (reply_by (shape_if odd (put_there size) other_bus) other_bus).after (reply_by (shape_if odd (put_here size) b) b).after
-      by_odd size true = record { there_kept = refl; here_kept = refl }
+      by_odd Word true = record { there_kept = refl; here_kept = refl }
+      by_odd Byte true = record { there_kept = refl; here_kept = refl }
       by_odd Word false = rw (core_size, drives_count) (by_place Word b.turn (translation (put_here Word) b).after (translation (put_here Word) b).address)
       by_odd Byte false = rw (core_size, drives_count) (by_place Byte b.turn (translation (put_here Byte) b).after (translation (put_here Byte) b).address)
 
       by_shape : (size : Size)
-          → RepliesTell (changed_if_placed (put_kind size one) b (translation (put_here size) b).address from)
+          → RepliesTell (changed_if_placed size b (place_of_write mode address b) from)
           (reply_by (shape_of (put_there size) other_bus) other_bus).value (reply_by (shape_of (put_here size) b) b).value
           (reply_by (shape_of (put_there size) other_bus) other_bus).after (reply_by (shape_of (put_here size) b) b).after
       unfolding shape_of
@@ -348,6 +349,6 @@ module _ (d : Data) (log : KeptCycles) (b : BusWorld) (others : Data) where
       by_shape Byte = by_odd Byte (is_odd (WriteByte one) address)
 
       pub write_tells : (size : Size)
-          → RepliesTell (changed_if_placed (put_kind size one) b (translation (put_here size) b).address from)
+          → RepliesTell (changed_if_placed size b (place_of_write mode address b) from)
           (perform (put_there size) other_bus).value (perform (put_here size) b).value (perform (put_there size) other_bus).after (perform (put_here size) b).after
       write_tells size = rw (perform_is (put_there size) other_bus, perform_is (put_here size) b) (by_shape size)

@@ -14,9 +14,8 @@ use Rattle.pdp_decode.specs.declared.instruction.Specifier.TheVariants.{Autodecr
 use Rattle.pdp_decode.specs.declared.instruction.Specifier.TheVariants.{Index, IndexDeferred}
 use Rattle.pdp_operand.specs.Handbook.Operand.{grow, index, indirect, lower, mode_now}
 use Rattle.pdp_operand.specs.Handbook.Operand.{name_register, named_register_id, point}
-use Rattle.pdp_operand.specs.Handbook.Operand.{read_before_write, read_operand, reading, step_of}
-use Rattle.pdp_operand.specs.Handbook.Operand.{write_operand, writing}
-use Rattle.pdp_operand.specs.Handbook.Reference.{reference_to}
+use Rattle.pdp_operand.specs.Handbook.Operand.{read_before_write, read_operand, size_of_fill}
+use Rattle.pdp_operand.specs.Handbook.Operand.{step_of, write_operand}
 use Rattle.pdp_operand.specs.Handbook.RegisterId.{register_id_of}
 use Rattle.pdp_operand.specs.Phases.Phase.{Inner, Phase, State, inner_of}
 use Rattle.pdp_operand.specs.declared.place.Fill.{Fill}
@@ -64,7 +63,7 @@ find_rows size (IndexDeferred r) = keeps_data (index r) ∷ keeps_data indirect 
 abbrev pub halves_of_operand : Size → Place → State → Halves
 halves_of_operand size (Reg id) s = cut_to size (halves_of id)
 halves_of_operand size (Mem cell) s =
-    halves_referred (reference_to cell.mode (reading size) cell.address) s.world.bus
+    halves_referred size cell.mode cell.address s.world.bus
 
 abbrev pub value_changed : Halves → DataCell → List DataCell
 value_changed from (ValueByte half) = from half
@@ -90,8 +89,8 @@ halves_of_result half = ResultByte half ∷ []
 abbrev pub changed_by_write : Fill → Place → State → DataCell → List DataCell
 changed_by_write how (Reg id) s c =
     register_changed id (halves_filled how (halves_of id) halves_of_result) of_itself c
-changed_by_write how (Mem cell) s c = changed_by_reference (reference_to cell.mode (writing how
-    s.latch.result) cell.address) s.world.bus halves_of_result c
+changed_by_write how (Mem cell) s c = changed_by_reference (size_of_fill how) cell.mode
+    cell.address s.world.bus halves_of_result c
 
 -- the result is written [3.9]
 abbrev pub write_row : Fill → PhaseRow

@@ -6,7 +6,10 @@ use Rattle.std.specs.Prelude.{Err, length}
 use Rattle.std.specs.Prelude.{if◌then◌else◌}
 use Rattle.pdp_word.specs.declared.size.Size.{Size}
 use Rattle.pdp_word.specs.declared.size.Size.TheVariants.{Word, Byte}
+use Rattle.pdp_kt11.specs.Handbook.Translation.{translate}
+use Rattle.pdp_kt11.specs.declared.mode.Mode.{Mode}
 use Rattle.pdp_kt11.specs.declared.place.Abort.{Abort}
+use Rattle.pdp_kt11.specs.declared.place.Access.TheVariants.{Read, Write}
 use Rattle.pdp_console.specs.declared.kl.KlRegister.TheVariants.{KeyboardBuffer, PrinterBuffer}
 use Rattle.pdp_tape.specs.declared.pc11.Pc11Register.TheVariants.{ReaderStatus, ReaderBuffer}
 use Rattle.pdp_tape.specs.declared.pc11.Pc11Register.TheVariants.{PunchBuffer}
@@ -14,8 +17,6 @@ use Rattle.pdp_io_page.specs.declared.register.Register.{Register}
 use Rattle.pdp_io_page.specs.declared.register.Register.TheVariants as register
 use Rattle.pdp_unibus.specs.Handbook.BusWorld.{BusWorld}
 use Rattle.pdp_unibus.specs.Handbook.Cycle.{Slave, Core, Device, Nobody, slave_at}
-use Rattle.pdp_operand.specs.Handbook.Reference.{Kind, ReadWord, ReadByte, WriteWord, WriteByte}
-use Rattle.pdp_operand.specs.Handbook.Reference.{Reference, translation}
 use Rattle.pdp_operand.specs.declared.place.Fill.{Fill}
 use Rattle.pdp_operand.specs.declared.place.Fill.TheVariants as fill
 use Rattle.pdp_operand.specs.declared.processor.RegisterId.{RegisterId}
@@ -123,20 +124,19 @@ abbrev pub half_of_address : ℕ → Half
 half_of_address physical = if physical % 2 == 0 then Low else High
 
 -- a byte is the half of its address, whichever half of it is asked for
-abbrev pub halves_read : Kind → ℕ → Halves → Halves
-halves_read ReadWord physical from half = from half
-halves_read ReadByte physical from half = from (half_of_address physical)
-halves_read (WriteWord word) physical from half = []
-halves_read (WriteByte byte) physical from half = []
+abbrev pub halves_read : Size → ℕ → Halves → Halves
+halves_read Word physical from half = from half
+halves_read Byte physical from half = from (half_of_address physical)
 
-abbrev pub halves_if_placed : Kind → BusWorld → Result ℕ Abort → Halves
-halves_if_placed kind b (Ok physical) half =
-    halves_read kind physical (halves_at (slave_at (length b.core) physical)) half
-halves_if_placed kind b (Err abort) half = []
+abbrev pub halves_if_placed : Size → BusWorld → Result ℕ Abort → Halves
+halves_if_placed size b (Ok physical) half =
+    halves_read size physical (halves_at (slave_at (length b.core) physical)) half
+halves_if_placed size b (Err abort) half = []
 
--- what a reference reads
-abbrev pub halves_referred : Reference → BusWorld → Halves
-halves_referred r b half = halves_if_placed r.kind b (translation r b).address half
+-- what a reference to this address of a mode reads
+abbrev pub halves_referred : Size → Mode → ℕ → BusWorld → Halves
+halves_referred size mode address b half =
+    halves_if_placed size b (translate mode address Read b.io_page.mapping).address half
 
 -- Writes
 
@@ -145,59 +145,59 @@ with_byte_at Low old from = with_low_byte old from
 with_byte_at High old from = with_high_byte old from
 
 -- the word after a write of a word, or of a byte to the half of its address
-abbrev pub halves_put : Kind → ℕ → Halves → Halves → Halves
-halves_put ReadWord physical old from = old
-halves_put ReadByte physical old from = old
-halves_put (WriteWord word) physical old from = from
-halves_put (WriteByte byte) physical old from = with_byte_at (half_of_address physical) old from
+abbrev pub halves_put : Size → ℕ → Halves → Halves → Halves
+halves_put Word physical old from = from
+halves_put Byte physical old from = with_byte_at (half_of_address physical) old from
 
--- whether a write puts its byte into a buffer that takes the low half alone [6.32]
-abbrev pub buffer_put : Kind → ℕ → DataCell → Halves → List DataCell
-buffer_put ReadWord physical buffer from = buffer ∷ []
-buffer_put ReadByte physical buffer from = buffer ∷ []
-buffer_put (WriteWord word) physical buffer from = from Low
-buffer_put (WriteByte byte) physical buffer from =
-    if physical % 2 == 0 then from Low else buffer ∷ []
+-- a buffer takes the low half alone: a byte written to the odd address does nothing [6.32]
+abbrev pub buffer_put : Size → ℕ → DataCell → Halves → List DataCell
+buffer_put Word physical buffer from = from Low
+buffer_put Byte physical buffer from = if physical % 2 == 0 then from Low else buffer ∷ []
 
 -- a write to a register of the bus: the program status word takes the codes [2.9], the printer's
 -- and the punch's buffer the byte [6.43] [6.45], and go of the reader may clear PRB [6.62]
-abbrev pub device_changed : Kind → ℕ → Register → Halves → DataCell → List DataCell
-device_changed kind physical register.ProgramStatus from (CodeNow code) =
-    halves_put kind physical (of_each (each_code CodeNow)) from Low
-device_changed kind physical (register.Console PrinterBuffer) from (Buffer Printer) =
-    buffer_put kind physical (Buffer Printer) from
-device_changed kind physical (register.PaperTape PunchBuffer) from (Buffer Punch) =
-    buffer_put kind physical (Buffer Punch) from
-device_changed kind physical (register.PaperTape ReaderStatus) from (Buffer Reader) =
-    Buffer Reader ∷ whole_of (halves_put kind physical of_nothing from)
-device_changed kind physical register from c = c ∷ []
+abbrev pub device_changed : Size → ℕ → Register → Halves → DataCell → List DataCell
+device_changed size physical register.ProgramStatus from (CodeNow code) =
+    halves_put size physical (of_each (each_code CodeNow)) from Low
+device_changed size physical (register.Console PrinterBuffer) from (Buffer Printer) =
+    buffer_put size physical (Buffer Printer) from
+device_changed size physical (register.PaperTape PunchBuffer) from (Buffer Punch) =
+    buffer_put size physical (Buffer Punch) from
+device_changed size physical (register.PaperTape ReaderStatus) from (Buffer Reader) =
+    Buffer Reader ∷ whole_of (halves_put size physical of_nothing from)
+device_changed size physical register from c = c ∷ []
 
 -- a write to a word of core
-abbrev pub core_changed : Kind → ℕ → ℕ → Halves → DataCell → List DataCell
-core_changed kind physical k from (CoreByte n half) =
-    if n == k then halves_put kind physical (λ other. CoreByte k other ∷ []) from half
+abbrev pub core_changed : Size → ℕ → ℕ → Halves → DataCell → List DataCell
+core_changed size physical k from (CoreByte n half) =
+    if n == k then halves_put size physical (λ other. CoreByte k other ∷ []) from half
     else CoreByte n half ∷ []
-core_changed kind physical k from c = c ∷ []
+core_changed size physical k from c = c ∷ []
 
-abbrev pub slave_changed : Kind → ℕ → Slave → Halves → DataCell → List DataCell
-slave_changed kind physical (Core k) from c = core_changed kind physical k from c
-slave_changed kind physical (Device register) from c =
-    device_changed kind physical register from c
-slave_changed kind physical Nobody from c = c ∷ []
+abbrev pub slave_changed : Size → ℕ → Slave → Halves → DataCell → List DataCell
+slave_changed size physical (Core k) from c = core_changed size physical k from c
+slave_changed size physical (Device register) from c =
+    device_changed size physical register from c
+slave_changed size physical Nobody from c = c ∷ []
 
-abbrev pub changed_if_placed : Kind → BusWorld → Result ℕ Abort → Halves → DataCell
+abbrev pub changed_if_placed : Size → BusWorld → Result ℕ Abort → Halves → DataCell
     → List DataCell
-changed_if_placed kind b (Ok physical) from c =
-    slave_changed kind physical (slave_at (length b.core) physical) from c
-changed_if_placed kind b (Err abort) from c = c ∷ []
+changed_if_placed size b (Ok physical) from c =
+    slave_changed size physical (slave_at (length b.core) physical) from c
+changed_if_placed size b (Err abort) from c = c ∷ []
+
+-- where a write to this address of a mode goes
+abbrev pub place_of_write : Mode → ℕ → BusWorld → Result ℕ Abort
+place_of_write mode address b = (translate mode address Write b.io_page.mapping).address
 
 -- what a reference that writes changes, if what it writes is made of these: a word of core, the
 -- codes, or a buffer
-abbrev pub changed_by_reference : Reference → BusWorld → Halves → DataCell → List DataCell
-changed_by_reference r b from (CoreByte k half) =
-    changed_if_placed r.kind b (translation r b).address from (CoreByte k half)
-changed_by_reference r b from (CodeNow code) =
-    changed_if_placed r.kind b (translation r b).address from (CodeNow code)
-changed_by_reference r b from (Buffer buffer) =
-    changed_if_placed r.kind b (translation r b).address from (Buffer buffer)
-changed_by_reference r b from c = c ∷ []
+abbrev pub changed_by_reference : Size → Mode → ℕ → BusWorld → Halves → DataCell
+    → List DataCell
+changed_by_reference size mode address b from (CoreByte k half) =
+    changed_if_placed size b (place_of_write mode address b) from (CoreByte k half)
+changed_by_reference size mode address b from (CodeNow code) =
+    changed_if_placed size b (place_of_write mode address b) from (CodeNow code)
+changed_by_reference size mode address b from (Buffer buffer) =
+    changed_if_placed size b (place_of_write mode address b) from (Buffer buffer)
+changed_by_reference size mode address b from c = c ∷ []

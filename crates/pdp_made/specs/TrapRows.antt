@@ -3,9 +3,9 @@
 -- which the codes are.
 use Rattle.std.specs.Prelude.{ℕ, ◌+◌, Bool, List, [], ◌∷◌, ◌++◌}
 use Rattle.pdp_word.specs.declared.codes.Codes.{Codes}
+use Rattle.pdp_word.specs.declared.size.Size.TheVariants.{Word}
 use Rattle.pdp_kt11.specs.declared.mode.Mode.TheVariants.{Kernel}
 use Rattle.pdp_io_page.specs.Handbook.Status.{status_word}
-use Rattle.pdp_operand.specs.Handbook.Reference.{ReadWord, WriteWord, reference_to}
 use Rattle.pdp_operand.specs.Phases.Phase.{Phase, State}
 use Rattle.pdp_operand.specs.declared.place.Place.{Place}
 use Rattle.pdp_operand.specs.declared.place.Place.TheVariants.{Reg, Mem}
@@ -45,27 +45,25 @@ status_changed from c = c ∷ []
 abbrev pub vector_status_row : ℕ → PhaseRow
 vector_status_row vector = record {
   phase = λ _. vector_status vector;
-  made = λ s c. status_changed (halves_referred (reference_to Kernel ReadWord (vector + 2))
-      s.world.bus) c;
+  made = λ s c. status_changed (halves_referred Word Kernel (vector + 2) s.world.bus) c;
 }
 
 -- a word is written at the place of the latch, or in kernel space
-abbrev pub put_at : (Codes → ℕ) → Halves → Place → State → DataCell → List DataCell
-put_at word from (Reg id) s c = c ∷ []
-put_at word from (Mem cell) s c = changed_by_reference (reference_to cell.mode (WriteWord (word
-    s.world.bus.io_page.status.codes)) cell.address) s.world.bus from c
+abbrev pub put_at : Halves → Place → State → DataCell → List DataCell
+put_at from (Reg id) s c = c ∷ []
+put_at from (Mem cell) s c =
+    changed_by_reference Word cell.mode cell.address s.world.bus from c
 
 abbrev pub put_word_row : Bool → (Codes → ℕ) → Halves → PhaseRow
 put_word_row marks word from = record {
   phase = λ codes. put_word marks (word codes);
-  made = λ s c. put_at word from s.latch.place s c;
+  made = λ s c. put_at from s.latch.place s c;
 }
 
 abbrev pub save_row : ℕ → (Codes → ℕ) → Halves → PhaseRow
 save_row address word from = record {
   phase = λ codes. save address (word codes);
-  made = λ s c. changed_by_reference (reference_to Kernel (WriteWord (word
-      s.world.bus.io_page.status.codes)) address) s.world.bus from c;
+  made = λ s c. changed_by_reference Word Kernel address s.world.bus from c;
 }
 
 -- the codes become those of the new program status word
