@@ -9,3 +9,4 @@ pub mod EffectSteps
 pub mod InstructionSteps
 pub mod ExtendedSteps
 pub mod TrapSteps
+pub mod ActionRows

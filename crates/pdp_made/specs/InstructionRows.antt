@@ -196,19 +196,20 @@ pop_register_rows r = find_rows Word pop ++ read_row Word ∷ set_register_row r
 
 abbrev pub jsr_rows : ℕ → Specifier → List PhaseRow
 jsr_rows r destination = find_rows Word destination
-    ++ aim_row ∷ find_rows Word push ++ take_link_row r ∷ write_row Whole ∷ link_row r ∷ []
+    ++ (aim_row ∷ find_rows Word push
+    ++ (take_link_row r ∷ write_row Whole ∷ link_row r ∷ []))
 
 -- MFPI and MTPI, RTI and RTT
 
 abbrev pub mfpi_rows : Specifier → List PhaseRow
 mfpi_rows source = find_rows Word source
-    ++ keeps_data cross ∷ read_row Word ∷ keep_source_row ∷ find_rows Word push
-    ++ effect_row (execute_mov Word) (mov_cells Word) ∷ finish_rows Whole
+    ++ (keeps_data cross ∷ read_row Word ∷ keep_source_row ∷ find_rows Word push
+    ++ (effect_row (execute_mov Word) (mov_cells Word) ∷ finish_rows Whole))
 
 abbrev pub mtpi_rows : Specifier → List PhaseRow
 mtpi_rows destination = find_rows Word pop
-    ++ read_row Word ∷ keep_source_row ∷ find_rows Word destination
-    ++ keeps_data cross ∷ effect_row (execute_mov Word) (mov_cells Word) ∷ finish_rows Whole
+    ++ (read_row Word ∷ keep_source_row ∷ find_rows Word destination
+    ++ (keeps_data cross ∷ effect_row (execute_mov Word) (mov_cells Word) ∷ finish_rows Whole))
 
 -- the codes of the popped word
 abbrev pub return_from_trap_row : PhaseRow
@@ -218,8 +219,8 @@ return_from_trap_row = record {
 }
 
 abbrev pub return_rows : List PhaseRow
-return_rows = find_rows Word pop ++ read_row Word ∷ keeps_data keep_counter ∷ find_rows Word pop
-    ++ read_row Word ∷ return_from_trap_row ∷ []
+return_rows = find_rows Word pop ++ (read_row Word ∷ keeps_data keep_counter ∷ find_rows Word pop
+    ++ (read_row Word ∷ return_from_trap_row ∷ []))
 
 -- MUL, DIV, ASH and ASHC: the registers and the codes are made of these
 

@@ -84,7 +84,7 @@ abbrev pub trap_rows : Bool → ℕ → SavedContext → List PhaseRow
 trap_rows marks vector context =
     keeps_data (vector_counter vector) ∷ vector_status_row vector
     ∷ push_rows marks (saved_status context) halves_saved
-    ++ push_rows marks (saved_counter context) of_nothing ++ enter_row context ∷ []
+    ++ (push_rows marks (saved_counter context) of_nothing ++ (enter_row context ∷ []))
 
 -- the red sequence: kernel R6 becomes 4, and then 0
 abbrev pub bare_stack_row : PhaseRow
