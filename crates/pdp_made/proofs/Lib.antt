@@ -10,3 +10,4 @@ pub mod InstructionSteps
 pub mod ExtendedSteps
 pub mod TrapSteps
 pub mod ActionRows
+pub mod Through

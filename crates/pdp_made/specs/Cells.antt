@@ -10,7 +10,7 @@ use Rattle.pdp_io_page.specs.Handbook.Status.{status_of_word}
 use Rattle.pdp_io_page.specs.declared.io_page.IoPage.{IoPage}
 use Rattle.pdp_unibus.specs.Handbook.BusWorld.{BusWorld}
 use Rattle.pdp_operand.specs.Phases.Phase.{Latch, State, state_of}
-use Rattle.pdp_operand.specs.Phases.World.{World}
+use Rattle.pdp_operand.specs.Phases.World.{World, world}
 use Rattle.pdp_operand.specs.declared.processor.Processor.{Processor}
 
 -- a half of a word: bits 7-0, and bits 15-8
@@ -113,6 +113,13 @@ data_of saved s = record {
   saved = saved;
 }
 
+-- no codes, and the data of a state where none are saved
+abbrev pub no_saved_codes : Codes
+no_saved_codes = record { n = false; z = false; v = false; c = false }
+
+abbrev pub data_left : State → Data
+data_left s = data_of no_saved_codes s
+
 -- that of a world: nothing is handed on
 abbrev pub data_at : Codes → World → Data
 data_at saved w = record {
@@ -185,6 +192,14 @@ pub record SameShape (d e : Data) : Type 0 where
 pub record AreAlike (saved other : Codes) (s u : State) : Type 0 where
   pub same_way : u ≡ with_data (data_of other u) u.world.bus.log s
   pub shape : SameShape (data_of other u) (data_of saved s)
+
+-- Two worlds are alike except for data.
+pub record WorldsAlike (w v : World) : Type 0 where
+  pub same_way : v ≡ world (processor_with v.processor.words w.processor) (bus_with (data_on
+      v.bus) v.bus.log w.bus)
+  pub core_size : length v.bus.core ≡ length w.bus.core
+  pub drives_count : length v.bus.drives ≡ length w.bus.drives
+  pub words_size : length v.processor.words ≡ length w.processor.words
 
 -- what a buffer holds
 abbrev pub held_in : DeviceBuffer → BusData → ℕ

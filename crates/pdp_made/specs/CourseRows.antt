@@ -6,19 +6,21 @@ use Rattle.pdp_action.specs.Action.{action_of}
 use Rattle.pdp_action.specs.declared.trap.Trap.{Trap}
 use Rattle.pdp_action.specs.declared.trap.Trap.TheVariants.{StackLimit}
 use Rattle.pdp_decode.specs.declared.instruction.Instr.{Instr}
-use Rattle.pdp_operand.specs.Phases.Course.{caught_in, go_on}
+use Rattle.pdp_store.specs.CycleLogs.{KeptCycles}
+use Rattle.pdp_operand.specs.Phases.Course.{caught_in, follow, go_on}
 use Rattle.pdp_operand.specs.Phases.Phase.{Inner, Latch, State, Stop, inner_of, run}
-use Rattle.pdp_instruction.specs.Handbook.Instruction.{fetch_instruction, note_trace}
-use Rattle.pdp_instruction.specs.Handbook.TrapSequence.{saved_context_of, trap_vector}
+use Rattle.pdp_instruction.specs.Handbook.Instruction.{fetch_instruction, instruction, note_trace}
+use Rattle.pdp_instruction.specs.Handbook.TrapSequence.{saved_context_of, sequence, trap_vector}
 use Rattle.pdp_instruction.specs.declared.saved_context.SavedContext.{SavedContext}
 use Rattle.pdp_made.specs.Cells.{AreAlike, Data, DataCell, CoreByte, DriveByte, RegisterByte}
 use Rattle.pdp_made.specs.Cells.{CodeNow, Buffer, ValueByte, SourceByte, ResultByte, StatusByte}
-use Rattle.pdp_made.specs.Cells.{CodeDue, CodeSaved, EachSame, Same, data_of}
+use Rattle.pdp_made.specs.Cells.{CodeDue, CodeSaved, EachSame, Same, data_left, data_of}
+use Rattle.pdp_made.specs.Cells.{no_saved_codes, with_data}
 use Rattle.pdp_made.specs.InstructionRows.{rows_of_action}
 use Rattle.pdp_made.specs.OperandRows.{keeps_data}
 use Rattle.pdp_made.specs.PhaseRows.{GoTheSameWay, AreSoundRows, PhaseRow, made_through}
 use Rattle.pdp_made.specs.PhaseRows.{phases_in}
-use Rattle.pdp_made.specs.TrapRows.{give_up_row, red_rows, trap_rows}
+use Rattle.pdp_made.specs.TrapRows.{give_up_row, red_rows, trap_rows, with_saved_codes}
 
 -- Rows of a course: rows of a plan, with what follows if it goes on and if it comes to a trap; or
 -- the codes of now are saved, and the rest follows.
@@ -85,6 +87,24 @@ GoAlong (Along rows next caught) saved other s u =
     (phases_in rows other) u)
 GoAlong (Saving rest) saved other s u = GoAlong rest (codes_at s) (codes_at u) s u
 
+-- Each row of a course is sound, and which rows follow is told by no data.
+abbrev pub IsSoundCourse : CourseRows → Type 0
+IsSoundCourse Finished = Unit {0}
+IsSoundCourse (Along rows next caught) =
+    AreSoundRows rows × ((i : Inner) → IsSoundCourse (next i)) × ((trap : Trap) (i : Inner)
+    → IsSoundCourse (caught trap i)) × ((d : Data) (log : KeptCycles) (t : State) → next (inner_of
+    (with_data d log t)) ≡ next (inner_of t)) × ((trap : Trap) (d : Data) (log : KeptCycles)
+    (t : State) → caught trap (inner_of (with_data d log t)) ≡ caught trap (inner_of t))
+IsSoundCourse (Saving rest) = IsSoundCourse rest
+
+-- The law of courses: if the cells that `made_along` names for a cell are the same before, that cell
+-- is the same after.
+abbrev pub CoursesTell : Type 0
+CoursesTell = (rows : CourseRows) (saved other : Codes) (s u : State) → IsSoundCourse rows
+    → AreAlike saved other s u → GoAlong rows saved other s u → (c : DataCell)
+    → EachSame (data_of other u) (data_of saved s) (made_along rows saved s c)
+    → Same (data_left (follow_rows rows other u)) (data_left (follow_rows rows saved s)) c
+
 -- The rows of an instruction
 
 -- after the red sequence, or once it can't go on
@@ -110,3 +130,33 @@ instruction_course_rows instr = Along (rows_of_action (action_of instr)) (λ _. 
 abbrev pub instruction_rows : CourseRows
 instruction_rows = Along (keeps_data fetch_instruction ∷ []) (λ i. instruction_course_rows
     i.latch.instr) trap_course_rows
+
+-- The rows of an instruction follow its course, and those of a sequence with saved codes follow the
+-- sequence.
+abbrev pub RowsFollowInstructions : Type 0
+RowsFollowInstructions = (saved : Codes) (s : State)
+    → follow_rows instruction_rows saved s ≡ follow instruction s
+
+abbrev pub RowsFollowSequences : Type 0
+RowsFollowSequences = (marks : Bool) (vector : ℕ) (context : SavedContext) (saved : Codes)
+    (s : State) → follow_rows (sequence_rows marks vector context) saved s
+    ≡ follow (sequence marks vector (with_saved_codes context saved)) s
+
+-- The law of instructions, with their fetch and their traps: two states are alike except for data,
+-- and the instruction goes the same way from both. If the cells that its rows name for a cell are
+-- the same before, that cell is the same after.
+abbrev pub InstructionsTell : Type 0
+InstructionsTell = (s u : State) → AreAlike no_saved_codes no_saved_codes s u
+    → GoAlong instruction_rows no_saved_codes no_saved_codes s u → (c : DataCell)
+    → EachSame (data_left u) (data_left s) (made_along instruction_rows no_saved_codes s c)
+    → Same (data_left (follow instruction u)) (data_left (follow instruction s)) c
+
+-- The same of the sequence of a trap or an interrupt, whose saved codes are cells too.
+abbrev pub SequencesTell : Type 0
+SequencesTell = (marks : Bool) (vector : ℕ) (context : SavedContext) (saved other : Codes)
+    (s u : State) → AreAlike saved other s u
+    → GoAlong (sequence_rows marks vector context) saved other s u → (c : DataCell)
+    → EachSame (data_of other u) (data_of saved s) (made_along (sequence_rows marks vector
+    context) saved s c)
+    → Same (data_left (follow (sequence marks vector (with_saved_codes context other)) u))
+    (data_left (follow (sequence marks vector (with_saved_codes context saved)) s)) c

@@ -3,11 +3,9 @@
 -- and what rows tell of a list of phases. No rule of the handbook is here.
 use Rattle.std.specs.Prelude.{◌≡◌, List, [], ◌∷◌, flat_map, Result, Ok, Err}
 use Rattle.pdp_word.specs.declared.codes.Codes.{Codes}
-use Rattle.pdp_unibus.specs.Handbook.BusWorld.{BusWorld}
-use Rattle.pdp_operand.specs.Phases.Phase.{Phase, State, Stop, step, stop_at}
-use Rattle.pdp_operand.specs.Phases.World.{World, world}
-use Rattle.pdp_made.specs.Cells.{AreAlike, Data, DataCell, EachSame, Same, bus_with, data_at}
-use Rattle.pdp_made.specs.Cells.{data_of, processor_with}
+use Rattle.pdp_operand.specs.Phases.Phase.{Phase, State, Stop, run, step}
+use Rattle.pdp_made.specs.Cells.{AreAlike, Data, DataCell, EachSame, Same, WorldsAlike, data_at}
+use Rattle.pdp_made.specs.Cells.{data_of}
 
 -- A phase, and of which cells before it each cell after it is made. In the sequence of a trap a
 -- phase has the codes that are saved in it, and every other phase is the same for all codes.
@@ -62,18 +60,12 @@ made_through [] saved s c = c ∷ []
 made_through (row ∷ rows) saved s c =
     made_next (λ t. made_through rows saved t) (row.made s) (step (row.phase saved) s) c
 
--- Two states that stopped are alike except for data: the trap is the same.
-pub record StopAlike (saved other : Codes) (stop end : Stop) : Type 0 where
-  pub same_trap : end.trap ≡ stop.trap
-  pub same_way : end.world ≡ world (processor_with end.world.processor.words
-      stop.world.processor) (bus_with (data_at other end.world).bus end.world.bus.log
-      stop.world.bus)
-
 -- Both go on, to two states that are alike, or both come to the same trap.
 abbrev pub BothEndAlike : (State → State → Type 0) → Codes → Codes → Result State Stop
     → Result State Stop → Type 0
 BothEndAlike rest saved other (Ok t) (Ok v) = AreAlike saved other t v × rest t v
-BothEndAlike rest saved other (Err stop) (Err end) = StopAlike saved other stop end
+BothEndAlike rest saved other (Err stop) (Err end) =
+    (end.trap ≡ stop.trap) × WorldsAlike stop.world end.world
 BothEndAlike rest saved other (Ok t) (Err end) = ⊥
 BothEndAlike rest saved other (Err stop) (Ok v) = ⊥
 
@@ -83,3 +75,12 @@ GoTheSameWay [] saved other s u = Unit {0}
 GoTheSameWay (row ∷ rows) saved other s u =
     BothEndAlike (λ t v. GoTheSameWay rows saved other t v) saved other (step (row.phase saved) s)
     (step (row.phase other) u)
+
+-- The law of plans: for phases with sound rows that go the same way from two states alike except for
+-- data, if the cells that `made_through` names for a cell are the same before, that cell is the same
+-- after, also where they come to a trap.
+abbrev pub PlansTell : Type 0
+PlansTell = (rows : List PhaseRow) (saved other : Codes) (s u : State) → AreSoundRows rows
+    → AreAlike saved other s u → GoTheSameWay rows saved other s u
+    → TellsEnds (made_through rows saved s) (made_through rows saved s) saved other (data_of other
+    u) (data_of saved s) (run (phases_in rows saved) s) (run (phases_in rows other) u)
