@@ -11,3 +11,4 @@ pub mod ExtendedSteps
 pub mod TrapSteps
 pub mod ActionRows
 pub mod Through
+pub mod Courses

@@ -1,0 +1,151 @@
+-- Rows of courses: what follows a plan, if it goes on and if it comes to a trap.
+use Rattle.std.proofs.Common.{◌≡◌, ◌∙◌, ℕ, ◌+◌, Bool, true, false, List, [], ◌∷◌, ◌++◌, flat_map, Option, None, Result, Ok, Err, refl, ap, sym, subst}
+use Rattle.pdp_word.specs.declared.codes.Codes.{Codes}
+use Rattle.pdp_action.specs.Action.{action_of}
+use Rattle.pdp_action.specs.declared.trap.Trap.{Trap}
+use Rattle.pdp_action.specs.declared.trap.Trap.TheVariants.{OddAddress, MappingAbort, BusTimeout, Reserved, JumpToRegister, StackLimit, Breakpoint, InputOutput, Emulator, TrapInstruction}
+use Rattle.pdp_decode.specs.declared.instruction.Instr.{Instr}
+use Rattle.pdp_store.specs.CycleLogs.{KeptCycles}
+use Rattle.pdp_operand.specs.Phases.Course.{Course, caught_in, ends, follow, go_on, nothing_after}
+use Rattle.pdp_operand.specs.Phases.Phase.{Inner, Latch, State, Stop, inner_of, run}
+use Rattle.pdp_operand.specs.Phases.Plan.{Plan, phases_of, run_plan}
+use Rattle.pdp_operand.proofs.Flattening.{run_phases_of}
+use Rattle.pdp_instruction.specs.Handbook.Action.{plan_of}
+use Rattle.pdp_instruction.specs.Handbook.Instruction.{instruction, instruction_course, note_trace, trace_note_course}
+use Rattle.pdp_instruction.specs.Handbook.TrapSequence.{after_trap, give_up, push_plan, red, red_plan, saved_context_of, sequence, trap_course, trap_plan, trap_vector}
+use Rattle.pdp_instruction.specs.declared.saved_context.SavedContext.{SavedContext}
+use Rattle.pdp_made.specs.Cells.{AreAlike, Data, DataCell, CoreByte, DriveByte, RegisterByte, CodeNow, Buffer, ValueByte, SourceByte, ResultByte, StatusByte, CodeDue, CodeSaved, EachSame, Same, SameShape, WorldsAlike, data_at, data_left, data_of, latch_with_data, no_saved_codes, with_data}
+use Rattle.pdp_made.specs.CourseRows.{CourseRows, Along, CoursesTell, Finished, GoAlong, InstructionsTell, IsSoundCourse, NextAlike, RowsFollowInstructions, RowsFollowSequences, Saving, SequencesTell, after_trap_rows, codes_at, follow_rows, instruction_course_rows, instruction_rows, made_after, made_along, of_lost_plan, of_saved_codes, red_course_rows, sequence_rows, trap_course_rows}
+use Rattle.pdp_made.specs.InstructionRows.{rows_of_action}
+use Rattle.pdp_made.specs.PhaseRows.{AreSoundRows, BothEndAlike, GoTheSameWay, PhaseRow, Tells, TellsEnds, made_through, phases_in}
+use Rattle.pdp_made.specs.TrapRows.{give_up_row, red_rows, trap_rows, with_saved_codes}
+use Rattle.pdp_made.proofs.ActionRows.{rows_phases, rows_sound}
+use Rattle.pdp_made.proofs.Through.{each_of, ends_alike, through}
+use Rattle.pdp_made.proofs.TrapSteps.{fetches, give_up_sound, notes_trace, red_sound, trap_sound}
+
+-- after a course nothing is saved
+left_tells : (d e : Data) (codes : Codes) → Tells (λ c. c ∷ []) d e (record d { saved = codes }) (record e { saved = codes })
+left_tells d e codes (CoreByte k half) all = all.0
+left_tells d e codes (DriveByte n k half) all = all.0
+left_tells d e codes (RegisterByte n half) all = all.0
+left_tells d e codes (CodeNow code) all = all.0
+left_tells d e codes (Buffer buffer) all = all.0
+left_tells d e codes (ValueByte half) all = all.0
+left_tells d e codes (SourceByte half) all = all.0
+left_tells d e codes (ResultByte half) all = all.0
+left_tells d e codes (StatusByte half) all = all.0
+left_tells d e codes (CodeDue code) all = all.0
+left_tells d e codes (CodeSaved code) all = refl
+
+-- what is saved becomes the codes of now
+saved_tells : (d e : Data) → Tells of_saved_codes d e (record d { saved = d.bus.codes }) (record e { saved = e.bus.codes })
+saved_tells d e (CoreByte k half) all = all.0
+saved_tells d e (DriveByte n k half) all = all.0
+saved_tells d e (RegisterByte n half) all = all.0
+saved_tells d e (CodeNow code) all = all.0
+saved_tells d e (Buffer buffer) all = all.0
+saved_tells d e (ValueByte half) all = all.0
+saved_tells d e (SourceByte half) all = all.0
+saved_tells d e (ResultByte half) all = all.0
+saved_tells d e (StatusByte half) all = all.0
+saved_tells d e (CodeDue code) all = all.0
+saved_tells d e (CodeSaved code) all = all.0
+
+-- at a trap the latch is the one from before the plan
+module _ (first : DataCell → List DataCell) (saved other : Codes) (s u : State) (stop end : Stop)
+    (tells : Tells first (data_of other u) (data_of saved s) (data_at other end.world) (data_at saved stop.world)) where
+  lost_plan_tells : Tells (of_lost_plan first) (data_of other u) (data_of saved s) (data_of other (caught_in u.latch end)) (data_of saved (caught_in s.latch stop))
+  lost_plan_tells (CoreByte k half) all = tells (CoreByte k half) all
+  lost_plan_tells (DriveByte n k half) all = tells (DriveByte n k half) all
+  lost_plan_tells (RegisterByte n half) all = tells (RegisterByte n half) all
+  lost_plan_tells (CodeNow code) all = tells (CodeNow code) all
+  lost_plan_tells (Buffer buffer) all = tells (Buffer buffer) all
+  lost_plan_tells (CodeSaved code) all = tells (CodeSaved code) all
+  lost_plan_tells (ValueByte half) all = all.0
+  lost_plan_tells (SourceByte half) all = all.0
+  lost_plan_tells (ResultByte half) all = all.0
+  lost_plan_tells (StatusByte half) all = all.0
+  lost_plan_tells (CodeDue code) all = all.0
+
+-- and both latches are alike
+caught_alike : (saved other : Codes) (s u : State) (stop end : Stop) → AreAlike saved other s u → WorldsAlike stop.world end.world
+    → AreAlike saved other (caught_in s.latch stop) (caught_in u.latch end)
+caught_alike saved other s u stop end alike worlds = record {
+  same_way = λ i. record { world = worlds.same_way i; latch = ap (λ v. v.latch) alike.same_way i };
+  shape = record {
+    core_size = worlds.core_size;
+    drives_count = worlds.drives_count;
+    words_size = worlds.words_size;
+    both_due = alike.shape.both_due;
+    new_mode = alike.shape.new_mode;
+  };
+}
+
+-- the same states where other codes are saved
+resaved : (saved other codes given : Codes) (s u : State) → AreAlike saved other s u → AreAlike codes given s u
+resaved saved other codes given s u alike = record {
+  same_way = alike.same_way;
+  shape = record {
+    core_size = alike.shape.core_size;
+    drives_count = alike.shape.drives_count;
+    words_size = alike.shape.words_size;
+    both_due = alike.shape.both_due;
+    new_mode = alike.shape.new_mode;
+  };
+}
+
+-- What follows a plan
+abbrev CourseTells : CourseRows → Codes → Codes → State → State → Type 0
+CourseTells rows saved other s u = (c : DataCell) → EachSame (data_of other u) (data_of saved s) (made_along rows saved s c)
+    → Same (data_left (follow_rows rows other u)) (data_left (follow_rows rows saved s)) c
+
+module _ (next : Inner → CourseRows) (caught : Trap → Inner → CourseRows) (saved other : Codes) (s u : State) (alike : AreAlike saved other s u)
+    (next_same : (d : Data) (log : KeptCycles) (t : State) → next (inner_of (with_data d log t)) ≡ next (inner_of t))
+    (caught_same : (trap : Trap) (d : Data) (log : KeptCycles) (t : State) → caught trap (inner_of (with_data d log t)) ≡ caught trap (inner_of t))
+    (next_tells : (t v : State) → AreAlike saved other t v → GoAlong (next (inner_of t)) saved other t v → CourseTells (next (inner_of t)) saved other t v)
+    (caught_tells : (trap : Trap) (t v : State) → AreAlike saved other t v → GoAlong (caught trap (inner_of t)) saved other t v → CourseTells (caught trap (inner_of t)) saved other t v)
+    (first : DataCell → List DataCell) where
+  abbrev next_there : State → State
+  next_there v = follow_rows (next (inner_of v)) other v
+
+  abbrev caught_there : Trap → State → State
+  caught_there trap v = follow_rows (caught trap (inner_of v)) other v
+
+  same_next : (t v : State) → AreAlike saved other t v → next (inner_of v) ≡ next (inner_of t)
+  same_next t v after = ap (λ w. next (inner_of w)) after.same_way ∙ next_same (data_of other v) v.world.bus.log t
+
+  same_caught : (trap : Trap) (t v : State) → AreAlike saved other t v → caught trap (inner_of v) ≡ caught trap (inner_of t)
+  same_caught trap t v after = ap (λ w. caught trap (inner_of w)) after.same_way ∙ caught_same trap (data_of other v) v.world.bus.log t
+
+  after_plan : (one end : Result State Stop) → TellsEnds first first saved other (data_of other u) (data_of saved s) one end
+      → BothEndAlike (λ _ _. Unit {0}) saved other one end
+      → NextAlike (λ t v. GoAlong (next (inner_of t)) saved other t v) (λ trap t v. GoAlong (caught trap (inner_of t)) saved other t v) s.latch u.latch one end
+      → (c : DataCell)
+      → EachSame (data_of other u) (data_of saved s) (made_after (λ t. made_along (next (inner_of t)) saved t) (λ trap t. made_along (caught trap (inner_of t)) saved t) s.latch first one c)
+      → Same (data_left (go_on next_there caught_there u.latch end)) (data_left (go_on (λ t. follow_rows (next (inner_of t)) saved t) (λ trap t. follow_rows (caught trap (inner_of t)) saved t) s.latch one)) c
+  after_plan (Ok t) (Ok v) tells ends on c all =
+      subst (λ rows. Same (data_left (follow_rows rows other v)) (data_left (follow_rows (next (inner_of t)) saved t)) c) (sym (same_next t v ends.0))
+      (next_tells t v ends.0 on c (each_of first (data_of other u) (data_of saved s) (data_of other v) (data_of saved t) tells (made_along (next (inner_of t)) saved t c) all))
+  after_plan (Err stop) (Err end) tells ends on c all =
+      let t : State = caught_in s.latch stop in
+      let v : State = caught_in u.latch end in
+      let after : AreAlike saved other t v = caught_alike saved other s u stop end alike ends.1 in
+      subst (λ trap. Same (data_left (follow_rows (caught trap (inner_of v)) other v)) (data_left (follow_rows (caught stop.trap (inner_of t)) saved t)) c) (sym ends.0)
+      (subst (λ rows. Same (data_left (follow_rows rows other v)) (data_left (follow_rows (caught stop.trap (inner_of t)) saved t)) c) (sym (same_caught stop.trap t v after))
+      (caught_tells stop.trap t v after on c (each_of (of_lost_plan first) (data_of other u) (data_of saved s) (data_of other v) (data_of saved t)
+      (lost_plan_tells first saved other s u stop end tells) (made_along (caught stop.trap (inner_of t)) saved t c) all)))
+  after_plan (Ok t) (Err end) tells ends on c all = absurd ends
+  after_plan (Err stop) (Ok v) tells ends on c all = absurd ends
+
+pub courses : CoursesTell
+unfolding follow_rows made_along GoAlong
+courses Finished saved other s u sound alike way = λ c all. left_tells (data_of other u) (data_of saved s) no_saved_codes c all
+courses (Along rows next caught) saved other s u sound alike way =
+    after_plan next caught saved other s u alike sound.3 sound.4
+    (λ t v after on. courses (next (inner_of t)) saved other t v (sound.1 (inner_of t)) after on)
+    (λ trap t v after on. courses (caught trap (inner_of t)) saved other t v (sound.2 trap (inner_of t)) after on)
+    (made_through rows saved s) (run (phases_in rows saved) s) (run (phases_in rows other) u)
+    (through rows saved other s u sound.0 alike way.0) (ends_alike rows saved other s u alike way.0) way.1
+courses (Saving rest) saved other s u sound alike way =
+    λ c all. courses rest (codes_at s) (codes_at u) s u sound (resaved saved other (codes_at s) (codes_at u) s u alike) way c
+    (each_of of_saved_codes (data_of other u) (data_of saved s) (data_of (codes_at u) u) (data_of (codes_at s) s) (saved_tells (data_of other u) (data_of saved s)) (made_along rest (codes_at s) s c) all)
