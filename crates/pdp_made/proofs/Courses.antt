@@ -6,17 +6,19 @@ use Rattle.pdp_action.specs.declared.trap.Trap.{Trap}
 use Rattle.pdp_action.specs.declared.trap.Trap.TheVariants.{OddAddress, MappingAbort, BusTimeout, Reserved, JumpToRegister, StackLimit, Breakpoint, InputOutput, Emulator, TrapInstruction}
 use Rattle.pdp_decode.specs.declared.instruction.Instr.{Instr}
 use Rattle.pdp_store.specs.CycleLogs.{KeptCycles}
-use Rattle.pdp_operand.specs.Phases.Course.{Course, caught_in, ends, follow, go_on, nothing_after}
+use Rattle.pdp_operand.specs.Phases.Course.{Course, Go, caught_in, ends, follow, go_on, nothing_after}
 use Rattle.pdp_operand.specs.Phases.Phase.{Inner, Latch, State, Stop, inner_of, run}
-use Rattle.pdp_operand.specs.Phases.Plan.{Plan, phases_of, run_plan}
+use Rattle.pdp_operand.specs.Phases.Plan.{Plan, one, phases_of, run_plan}
+use Rattle.pdp_operand.specs.Handbook.Processor.{register_of}
 use Rattle.pdp_operand.proofs.Flattening.{run_phases_of}
 use Rattle.pdp_instruction.specs.Handbook.Action.{plan_of}
-use Rattle.pdp_instruction.specs.Handbook.Instruction.{instruction, instruction_course, note_trace, trace_note_course}
+use Rattle.pdp_instruction.specs.Handbook.Instruction.{fetch_instruction, instruction, instruction_course, note_trace, trace_note_course}
 use Rattle.pdp_instruction.specs.Handbook.TrapSequence.{after_trap, give_up, push_plan, red, red_plan, saved_context_of, sequence, trap_course, trap_plan, trap_vector}
 use Rattle.pdp_instruction.specs.declared.saved_context.SavedContext.{SavedContext}
 use Rattle.pdp_made.specs.Cells.{AreAlike, Data, DataCell, CoreByte, DriveByte, RegisterByte, CodeNow, Buffer, ValueByte, SourceByte, ResultByte, StatusByte, CodeDue, CodeSaved, EachSame, Same, SameShape, WorldsAlike, data_at, data_left, data_of, latch_with_data, no_saved_codes, with_data}
 use Rattle.pdp_made.specs.CourseRows.{CourseRows, Along, CoursesTell, Finished, GoAlong, InstructionsTell, IsSoundCourse, NextAlike, RowsFollowInstructions, RowsFollowSequences, Saving, SequencesTell, after_trap_rows, codes_at, follow_rows, instruction_course_rows, instruction_rows, made_after, made_along, of_lost_plan, of_saved_codes, red_course_rows, sequence_rows, trap_course_rows}
 use Rattle.pdp_made.specs.InstructionRows.{rows_of_action}
+use Rattle.pdp_made.specs.OperandRows.{keeps_data}
 use Rattle.pdp_made.specs.PhaseRows.{AreSoundRows, BothEndAlike, GoTheSameWay, PhaseRow, Tells, TellsEnds, made_through, phases_in}
 use Rattle.pdp_made.specs.TrapRows.{give_up_row, red_rows, trap_rows, with_saved_codes}
 use Rattle.pdp_made.proofs.ActionRows.{rows_phases, rows_sound}
@@ -149,3 +151,117 @@ courses (Along rows next caught) saved other s u sound alike way =
 courses (Saving rest) saved other s u sound alike way =
     λ c all. courses rest (codes_at s) (codes_at u) s u sound (resaved saved other (codes_at s) (codes_at u) s u alike) way c
     (each_of of_saved_codes (data_of other u) (data_of saved s) (data_of (codes_at u) u) (data_of (codes_at s) s) (saved_tells (data_of other u) (data_of saved s)) (made_along rest (codes_at s) s c) all)
+
+-- The rows follow the courses
+module _ (f g : State → State) (c k : Trap → State → State) (same : (t : State) → f t ≡ g t) (trap_same : (trap : Trap) (t : State) → c trap t ≡ k trap t) where
+  goes_on : (latch : Latch) (one : Result State Stop) → go_on f c latch one ≡ go_on g k latch one
+  goes_on latch (Ok t) = same t
+  goes_on latch (Err stop) = trap_same stop.trap (caught_in latch stop)
+
+-- a list of phases that are those of a plan
+followed : (rows : List PhaseRow) (plan : Plan) (saved : Codes) → phases_in rows saved ≡ phases_of plan → (s : State) → run (phases_in rows saved) s ≡ run_plan plan s
+followed rows plan saved same s = ap (λ ps. run ps s) same ∙ run_phases_of plan s
+
+trap_phases : (marks : Bool) (vector : ℕ) (context : SavedContext) (saved : Codes) → phases_in (trap_rows marks vector context) saved ≡ phases_of (trap_plan marks vector (with_saved_codes context saved))
+unfolding trap_plan push_plan
+trap_phases marks vector context saved = refl
+
+red_phases : (context : SavedContext) (saved : Codes) → phases_in (red_rows context) saved ≡ phases_of (red_plan (with_saved_codes context saved))
+unfolding red_plan
+red_phases context saved = refl
+
+gave_up : (context : SavedContext) (saved : Codes) (s : State) → follow_rows (Along (give_up_row context ∷ []) (λ _. Finished) (λ _ _. Finished)) saved s ≡ follow (Go (one (give_up (with_saved_codes context saved))) ends nothing_after) s
+unfolding follow_rows follow
+gave_up context saved s = refl
+
+red_followed : (context : SavedContext) (saved : Codes) (s : State) → follow_rows (red_course_rows context) saved s ≡ follow (red (with_saved_codes context saved)) s
+unfolding follow_rows follow red
+red_followed context saved s =
+    ap (λ one. go_on (λ t. t) (λ trap t. follow_rows (Along (give_up_row context ∷ []) (λ _. Finished) (λ _ _. Finished)) saved t) s.latch one) (followed (red_rows context) (red_plan (with_saved_codes context saved)) saved (red_phases context saved) s)
+    ∙ goes_on (λ t. t) (λ t. t) _ _ (λ t. refl) (λ trap t. gave_up context saved t) s.latch (run_plan (red_plan (with_saved_codes context saved)) s)
+
+pub sequence_followed : RowsFollowSequences
+unfolding follow_rows follow sequence
+sequence_followed marks vector context saved s =
+    ap (λ one. go_on (λ t. t) (λ trap t. follow_rows (red_course_rows context) saved t) s.latch one) (followed (trap_rows marks vector context) (trap_plan marks vector (with_saved_codes context saved)) saved (trap_phases marks vector context saved) s)
+    ∙ goes_on (λ t. t) (λ t. t) _ _ (λ t. refl) (λ trap t. red_followed context saved t) s.latch (run_plan (trap_plan marks vector (with_saved_codes context saved)) s)
+
+trap_followed : (trap : Trap) (context : SavedContext) (s : State) → follow_rows (after_trap_rows trap context) context.status.codes s ≡ follow (after_trap trap context) s
+trap_followed StackLimit context s = red_followed context context.status.codes s
+trap_followed OddAddress context s = sequence_followed true (trap_vector OddAddress) context context.status.codes s
+trap_followed MappingAbort context s = sequence_followed true (trap_vector MappingAbort) context context.status.codes s
+trap_followed BusTimeout context s = sequence_followed true (trap_vector BusTimeout) context context.status.codes s
+trap_followed Reserved context s = sequence_followed true (trap_vector Reserved) context context.status.codes s
+trap_followed JumpToRegister context s = sequence_followed true (trap_vector JumpToRegister) context context.status.codes s
+trap_followed Breakpoint context s = sequence_followed true (trap_vector Breakpoint) context context.status.codes s
+trap_followed InputOutput context s = sequence_followed true (trap_vector InputOutput) context context.status.codes s
+trap_followed Emulator context s = sequence_followed true (trap_vector Emulator) context context.status.codes s
+trap_followed TrapInstruction context s = sequence_followed true (trap_vector TrapInstruction) context context.status.codes s
+
+caught_followed : (saved : Codes) (trap : Trap) (s : State) → follow_rows (trap_course_rows trap (inner_of s)) saved s ≡ follow (trap_course trap (inner_of s)) s
+unfolding follow_rows
+caught_followed saved trap s = trap_followed trap (saved_context_of (inner_of s)) s
+
+noted : (instr : Instr) (saved : Codes) (s : State) → follow_rows (Along (keeps_data (note_trace instr) ∷ []) (λ _. Finished) (λ _ _. Finished)) saved s ≡ follow (trace_note_course instr) s
+unfolding follow_rows follow trace_note_course
+noted instr saved s = refl
+
+executed : (instr : Instr) (saved : Codes) (s : State) → follow_rows (instruction_course_rows instr) saved s ≡ follow (instruction_course instr) s
+unfolding follow_rows follow instruction_course
+executed instr saved s =
+    ap (λ one. go_on (λ t. follow_rows (Along (keeps_data (note_trace instr) ∷ []) (λ _. Finished) (λ _ _. Finished)) saved t) (λ trap t. follow_rows (trap_course_rows trap (inner_of t)) saved t) s.latch one)
+    (followed (rows_of_action (action_of instr)) (plan_of instr) saved (rows_phases saved (action_of instr)) s)
+    ∙ goes_on _ _ _ _ (λ t. noted instr saved t) (λ trap t. caught_followed saved trap t) s.latch (run_plan (plan_of instr) s)
+
+pub instruction_followed : RowsFollowInstructions
+unfolding follow_rows follow instruction
+instruction_followed saved s =
+    goes_on (λ t. follow_rows (instruction_course_rows t.latch.instr) saved t) (λ t. follow (instruction_course t.latch.instr) t) (λ trap t. follow_rows (trap_course_rows trap (inner_of t)) saved t) (λ trap t. follow (trap_course trap (inner_of t)) t)
+    (λ t. executed t.latch.instr saved t) (λ trap t. caught_followed saved trap t) s.latch (run_plan (one fetch_instruction) s)
+
+-- and each of their rows is sound
+red_course_sound : (context : SavedContext) → IsSoundCourse (red_course_rows context)
+red_course_sound context = (red_sound context, λ i. tt, λ trap i. (give_up_sound context, λ i. tt, λ trap i. tt, λ d log t. refl, λ trap d log t. refl), λ d log t. refl, λ trap d log t. refl)
+
+pub sequence_sound : (marks : Bool) (vector : ℕ) (context : SavedContext) → IsSoundCourse (sequence_rows marks vector context)
+sequence_sound marks vector context = (trap_sound marks vector context, λ i. tt, λ trap i. red_course_sound context, λ d log t. refl, λ trap d log t. refl)
+
+trap_course_sound : (trap : Trap) (i : Inner) → IsSoundCourse (trap_course_rows trap i)
+trap_course_sound StackLimit i = red_course_sound (saved_context_of i)
+trap_course_sound OddAddress i = sequence_sound true (trap_vector OddAddress) (saved_context_of i)
+trap_course_sound MappingAbort i = sequence_sound true (trap_vector MappingAbort) (saved_context_of i)
+trap_course_sound BusTimeout i = sequence_sound true (trap_vector BusTimeout) (saved_context_of i)
+trap_course_sound Reserved i = sequence_sound true (trap_vector Reserved) (saved_context_of i)
+trap_course_sound JumpToRegister i = sequence_sound true (trap_vector JumpToRegister) (saved_context_of i)
+trap_course_sound Breakpoint i = sequence_sound true (trap_vector Breakpoint) (saved_context_of i)
+trap_course_sound InputOutput i = sequence_sound true (trap_vector InputOutput) (saved_context_of i)
+trap_course_sound Emulator i = sequence_sound true (trap_vector Emulator) (saved_context_of i)
+trap_course_sound TrapInstruction i = sequence_sound true (trap_vector TrapInstruction) (saved_context_of i)
+
+trap_rows_same : (trap : Trap) (d : Data) (log : KeptCycles) (t : State) → trap_course_rows trap (inner_of (with_data d log t)) ≡ trap_course_rows trap (inner_of t)
+unfolding register_of
+trap_rows_same StackLimit d log t = refl
+trap_rows_same OddAddress d log t = refl
+trap_rows_same MappingAbort d log t = refl
+trap_rows_same BusTimeout d log t = refl
+trap_rows_same Reserved d log t = refl
+trap_rows_same JumpToRegister d log t = refl
+trap_rows_same Breakpoint d log t = refl
+trap_rows_same InputOutput d log t = refl
+trap_rows_same Emulator d log t = refl
+trap_rows_same TrapInstruction d log t = refl
+
+pub instruction_sound : IsSoundCourse instruction_rows
+instruction_sound = ((fetches, tt), λ i. (rows_sound (action_of i.latch.instr), λ j. ((notes_trace i.latch.instr, tt), λ k. tt, λ trap k. tt, λ d log t. refl, λ trap d log t. refl), trap_course_sound, λ d log t. refl, trap_rows_same), trap_course_sound, λ d log t. refl, trap_rows_same)
+
+pub instructions : InstructionsTell
+instructions s u alike way c all =
+    subst (λ v. Same (data_left (follow instruction u)) (data_left v) c) (instruction_followed no_saved_codes s)
+    (subst (λ v. Same (data_left v) (data_left (follow_rows instruction_rows no_saved_codes s)) c) (instruction_followed no_saved_codes u)
+    (courses instruction_rows no_saved_codes no_saved_codes s u instruction_sound alike way c all))
+
+pub sequences : SequencesTell
+sequences marks vector context saved other s u alike way c all =
+    subst (λ v. Same (data_left (follow (sequence marks vector (with_saved_codes context other)) u)) (data_left v) c) (sequence_followed marks vector context saved s)
+    (subst (λ v. Same (data_left v) (data_left (follow_rows (sequence_rows marks vector context) saved s)) c) (sequence_followed marks vector context other u)
+    (courses (sequence_rows marks vector context) saved other s u (sequence_sound marks vector context) alike way c all))
