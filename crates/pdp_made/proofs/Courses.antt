@@ -162,11 +162,11 @@ module _ (f g : State → State) (c k : Trap → State → State) (same : (t : S
 followed : (rows : List PhaseRow) (plan : Plan) (saved : Codes) → phases_in rows saved ≡ phases_of plan → (s : State) → run (phases_in rows saved) s ≡ run_plan plan s
 followed rows plan saved same s = ap (λ ps. run ps s) same ∙ run_phases_of plan s
 
-trap_phases : (marks : Bool) (vector : ℕ) (context : SavedContext) (saved : Codes) → phases_in (trap_rows marks vector context) saved ≡ phases_of (trap_plan marks vector (with_saved_codes context saved))
+pub trap_phases : (marks : Bool) (vector : ℕ) (context : SavedContext) (saved : Codes) → phases_in (trap_rows marks vector context) saved ≡ phases_of (trap_plan marks vector (with_saved_codes context saved))
 unfolding trap_plan push_plan
 trap_phases marks vector context saved = refl
 
-red_phases : (context : SavedContext) (saved : Codes) → phases_in (red_rows context) saved ≡ phases_of (red_plan (with_saved_codes context saved))
+pub red_phases : (context : SavedContext) (saved : Codes) → phases_in (red_rows context) saved ≡ phases_of (red_plan (with_saved_codes context saved))
 unfolding red_plan
 red_phases context saved = refl
 

@@ -12,3 +12,4 @@ pub mod TrapSteps
 pub mod ActionRows
 pub mod Through
 pub mod Courses
+pub mod Example
