@@ -1,20 +1,15 @@
 -- The rows of each action are those of its plan, and each is sound.
-use Rattle.std.proofs.Common.{◌≡◌, ◌∙◌, ℕ, Bool, true, false, List, [], ◌∷◌, ◌++◌, refl, ap, ap₂, append_assoc, if◌then◌else◌}
+use Rattle.std.proofs.Common.{◌≡◌, ◌∙◌, ℕ, Bool, true, false, List, [], ◌∷◌, ◌++◌, refl, ap, if◌then◌else◌}
 use Rattle.pdp_word.specs.declared.codes.Codes.{Codes}
 use Rattle.pdp_word.specs.declared.size.Size.{Size}
 use Rattle.pdp_word.specs.declared.size.Size.TheVariants.{Word, Byte}
 use Rattle.pdp_action.specs.Operation.{size_of_combination, size_of_comparison, size_of_modification, size_of_replacement}
 use Rattle.pdp_action.specs.declared.action.Action.{Action}
 use Rattle.pdp_action.specs.declared.action.Action.TheVariants as action
-use Rattle.pdp_action.specs.declared.operation.Combination.{Combination}
-use Rattle.pdp_action.specs.declared.operation.Comparison.{Comparison}
-use Rattle.pdp_action.specs.declared.operation.Modification.{Modification}
-use Rattle.pdp_action.specs.declared.operation.Replacement.{Replacement}
 use Rattle.pdp_decode.specs.Fields.{register_number}
 use Rattle.pdp_decode.specs.declared.instruction.Specifier.{Specifier}
 use Rattle.pdp_decode.specs.declared.instruction.Specifier.TheVariants.{Register, Deferred, Autoincrement, AutoincrementDeferred, Autodecrement, AutodecrementDeferred, Index, IndexDeferred}
-use Rattle.pdp_operand.specs.Handbook.Operand.{fill_of, find, read_before_write, read_operand}
-use Rattle.pdp_operand.specs.Phases.Phase.{Phase}
+use Rattle.pdp_operand.specs.Handbook.Operand.{fill_of, find, read_operand}
 use Rattle.pdp_operand.specs.Phases.Plan.{phases_of}
 use Rattle.pdp_operand.specs.declared.place.Fill.{Fill}
 use Rattle.pdp_operand.specs.declared.place.Fill.TheVariants.{Whole, Extended}
@@ -27,7 +22,7 @@ use Rattle.pdp_instruction.specs.Handbook.Extended.{ash_plan, ashc_plan, div_pla
 use Rattle.pdp_instruction.specs.Handbook.Jump.{jmp_plan, jsr_plan, mark_plan, pop, pop_register, push, rts_plan}
 use Rattle.pdp_instruction.specs.Handbook.Moves.{execute_mov, mov_plan, movb_plan}
 use Rattle.pdp_instruction.specs.Handbook.OneOperand.{modify_plan, replace_plan, tst_plan}
-use Rattle.pdp_instruction.specs.Handbook.Operands.{is_late, keep_source, operands_plan, place_first, source_first, take_register}
+use Rattle.pdp_instruction.specs.Handbook.Operands.{is_late, keep_source, operands_plan, place_first, source_first}
 use Rattle.pdp_instruction.specs.Handbook.PreviousMode.{cross, mfpi_plan, mtpi_plan}
 use Rattle.pdp_instruction.specs.Handbook.ReturnFromTrap.{return_plan}
 use Rattle.pdp_instruction.specs.Handbook.TwoOperands.{combine_plan, compare_plan}

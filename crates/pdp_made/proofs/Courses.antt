@@ -1,12 +1,12 @@
 -- Rows of courses: what follows a plan, if it goes on and if it comes to a trap.
-use Rattle.std.proofs.Common.{◌≡◌, ◌∙◌, ℕ, ◌+◌, Bool, true, false, List, [], ◌∷◌, ◌++◌, flat_map, Option, None, Result, Ok, Err, refl, ap, sym, subst}
+use Rattle.std.proofs.Common.{◌≡◌, ◌∙◌, ℕ, Bool, true, List, [], ◌∷◌, Result, Ok, Err, refl, ap, sym, subst}
 use Rattle.pdp_word.specs.declared.codes.Codes.{Codes}
 use Rattle.pdp_action.specs.Action.{action_of}
 use Rattle.pdp_action.specs.declared.trap.Trap.{Trap}
 use Rattle.pdp_action.specs.declared.trap.Trap.TheVariants.{OddAddress, MappingAbort, BusTimeout, Reserved, JumpToRegister, StackLimit, Breakpoint, InputOutput, Emulator, TrapInstruction}
 use Rattle.pdp_decode.specs.declared.instruction.Instr.{Instr}
 use Rattle.pdp_store.specs.CycleLogs.{KeptCycles}
-use Rattle.pdp_operand.specs.Phases.Course.{Course, Go, caught_in, ends, follow, go_on, nothing_after}
+use Rattle.pdp_operand.specs.Phases.Course.{Go, caught_in, ends, follow, go_on, nothing_after}
 use Rattle.pdp_operand.specs.Phases.Phase.{Inner, Latch, State, Stop, inner_of, run}
 use Rattle.pdp_operand.specs.Phases.Plan.{Plan, one, phases_of, run_plan}
 use Rattle.pdp_operand.specs.Handbook.Processor.{register_of}
@@ -15,11 +15,11 @@ use Rattle.pdp_instruction.specs.Handbook.Action.{plan_of}
 use Rattle.pdp_instruction.specs.Handbook.Instruction.{fetch_instruction, instruction, instruction_course, note_trace, trace_note_course}
 use Rattle.pdp_instruction.specs.Handbook.TrapSequence.{after_trap, give_up, push_plan, red, red_plan, saved_context_of, sequence, trap_course, trap_plan, trap_vector}
 use Rattle.pdp_instruction.specs.declared.saved_context.SavedContext.{SavedContext}
-use Rattle.pdp_made.specs.Cells.{AreAlike, Data, DataCell, CoreByte, DriveByte, RegisterByte, CodeNow, Buffer, ValueByte, SourceByte, ResultByte, StatusByte, CodeDue, CodeSaved, EachSame, Same, SameShape, WorldsAlike, data_at, data_left, data_of, latch_with_data, no_saved_codes, with_data}
+use Rattle.pdp_made.specs.Cells.{AreAlike, Data, DataCell, CoreByte, DriveByte, RegisterByte, CodeNow, Buffer, ValueByte, SourceByte, ResultByte, StatusByte, CodeDue, CodeSaved, EachSame, Same, WorldsAlike, data_at, data_left, data_of, no_saved_codes, with_data}
 use Rattle.pdp_made.specs.CourseRows.{CourseRows, Along, CoursesTell, Finished, GoAlong, InstructionsTell, IsSoundCourse, NextAlike, RowsFollowInstructions, RowsFollowSequences, Saving, SequencesTell, after_trap_rows, codes_at, follow_rows, instruction_course_rows, instruction_rows, made_after, made_along, of_lost_plan, of_saved_codes, red_course_rows, sequence_rows, trap_course_rows}
 use Rattle.pdp_made.specs.InstructionRows.{rows_of_action}
 use Rattle.pdp_made.specs.OperandRows.{keeps_data}
-use Rattle.pdp_made.specs.PhaseRows.{AreSoundRows, BothEndAlike, GoTheSameWay, PhaseRow, Tells, TellsEnds, made_through, phases_in}
+use Rattle.pdp_made.specs.PhaseRows.{BothEndAlike, PhaseRow, Tells, TellsEnds, made_through, phases_in}
 use Rattle.pdp_made.specs.TrapRows.{give_up_row, red_rows, trap_rows, with_saved_codes}
 use Rattle.pdp_made.proofs.ActionRows.{rows_phases, rows_sound}
 use Rattle.pdp_made.proofs.Through.{each_of, ends_alike, through}

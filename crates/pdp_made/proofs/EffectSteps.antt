@@ -1,12 +1,11 @@
 -- What the effects of operations are made of.
-use Rattle.std.proofs.Common.{◌≡◌, ◌∙◌, ◌<◌, ◌≤◌, ℕ, ◌+◌, ◌-◌, ◌*◌, ◌/◌, ◌%◌, ◌-ℤ◌, ◌==◌, ◌&&◌, not, Bool, true, false, List, [], ◌∷◌, ◌++◌, bit_and, bit_or, bit_xor, nat_le, nat_lt, Some, refl, ap, ap₂, sym, arith, if◌then◌else◌}
+use Rattle.std.proofs.Common.{◌≡◌, ◌∙◌, ℕ, ◌+◌, ◌-◌, ◌*◌, ◌/◌, ◌%◌, ◌-ℤ◌, ◌==◌, ◌&&◌, not, Bool, true, false, bit_and, bit_or, bit_xor, nat_le, nat_lt, refl, ap, ap₂, sym, arith, if◌then◌else◌}
 use Rattle.std.proofs.lemmas.Nat.{and_mod, and_shr, or_mod, or_shr, xor_mod, xor_shr}
 use Rattle.pdp_word.specs.Bits.{bit_of}
 use Rattle.pdp_word.specs.Size.{half, is_negative, span}
-use Rattle.pdp_word.specs.declared.codes.Codes.{Codes}
 use Rattle.pdp_word.specs.declared.size.Size.{Size}
 use Rattle.pdp_word.specs.declared.size.Size.TheVariants.{Word, Byte}
-use Rattle.pdp_alu.specs.Arithmetic.{add_effect, cmp_effect, sub_effect, difference}
+use Rattle.pdp_alu.specs.Arithmetic.{add_effect, cmp_effect, sub_effect}
 use Rattle.pdp_alu.specs.Bytes.{swab_effect, sxt_effect}
 use Rattle.pdp_alu.specs.Effect.{effect, mov_effect, tst_effect}
 use Rattle.pdp_alu.specs.Logic.{bic_effect, bis_effect, bit_effect, xor_effect}
@@ -23,9 +22,9 @@ use Rattle.pdp_action.specs.declared.operation.Modification.{Modification}
 use Rattle.pdp_action.specs.declared.operation.Modification.TheVariants as modification
 use Rattle.pdp_action.specs.declared.operation.Replacement.{Replacement}
 use Rattle.pdp_action.specs.declared.operation.Replacement.TheVariants as replacement
-use Rattle.pdp_made.specs.Cells.{Half, Low, High, byte_in, Data, DataCell, CodeNow, ConditionCode, Negative, Zero, Overflow, Carry, EachSame, flag_in}
-use Rattle.pdp_made.specs.EffectRows.{EffectCells, both_halves, carry_now, clears_overflow, combination_cells, comparison_cells, complement_halves, exchanged_halves, going_down, going_up, keeps_carry, mov_cells, modification_cells, operands_of, replacement_cells, sets_codes, sets_signs, source_halves, straight, tst_cells, value_halves, value_made, with_carry}
-use Rattle.pdp_made.specs.ReferenceRows.{Halves, cut_to, of_each, of_nothing, whole_of}
+use Rattle.pdp_made.specs.Cells.{Half, Low, High, byte_in, Data, Negative, Zero, Overflow, Carry, EachSame, flag_in}
+use Rattle.pdp_made.specs.EffectRows.{EffectCells, both_halves, clears_overflow, combination_cells, comparison_cells, complement_halves, exchanged_halves, going_down, going_up, keeps_carry, mov_cells, modification_cells, operands_of, replacement_cells, sets_codes, sets_signs, source_halves, straight, tst_cells, value_halves, value_made, with_carry}
+use Rattle.pdp_made.specs.ReferenceRows.{Halves, cut_to}
 use Rattle.pdp_made.proofs.Frames.{CodesTell}
 use Rattle.pdp_made.proofs.Halves.{HalvesTell, cut_tells, whole_tells}
 

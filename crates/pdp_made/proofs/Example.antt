@@ -1,5 +1,5 @@
 -- ADD R0,R1, worked out.
-use Rattle.std.proofs.Common.{◌≡◌, List, [], ◌∷◌, refl}
+use Rattle.std.proofs.Common.{◌≡◌, [], ◌∷◌, refl}
 use Rattle.pdp_word.specs.declared.codes.Codes.{Codes}
 use Rattle.pdp_action.specs.declared.action.Action.TheVariants as action
 use Rattle.pdp_action.specs.declared.operation.Combination.TheVariants.{Add}
@@ -11,7 +11,7 @@ use Rattle.pdp_operand.specs.Phases.Phase.{State}
 use Rattle.pdp_instruction.specs.Handbook.Execute.{store_codes}
 use Rattle.pdp_instruction.specs.Handbook.Operands.{keep_source}
 use Rattle.pdp_instruction.specs.Handbook.TwoOperands.{execute_combination}
-use Rattle.pdp_made.specs.Cells.{DataCell, High, Low, RegisterByte}
+use Rattle.pdp_made.specs.Cells.{High, Low, RegisterByte}
 use Rattle.pdp_made.specs.InstructionRows.{rows_of_action}
 use Rattle.pdp_made.specs.PhaseRows.{made_through}
 

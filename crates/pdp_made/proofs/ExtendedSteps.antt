@@ -1,5 +1,5 @@
 -- The rows of MUL, DIV, ASH and ASHC, and of RTI and RTT, are sound.
-use Rattle.std.proofs.Common.{◌≡◌, ◌∙◌, ℕ, ◌+◌, ◌-◌, ◌*◌, ◌/◌, ◌%◌, ◌==◌, Bool, true, false, List, [], ◌∷◌, ◌++◌, length, slice_index, slice_set, nat_lt, Option, None, Some, Result, Ok, Err, refl, ap, ap₂, sym, arith, get_or-set_same, get_or-set_other, if◌then◌else◌}
+use Rattle.std.proofs.Common.{◌≡◌, ◌∙◌, ℕ, ◌-◌, ◌%◌, ◌==◌, Bool, true, false, List, [], ◌∷◌, length, slice_index, slice_set, nat_lt, Some, refl, ap, ap₂, sym, arith, get_or-set_same, get_or-set_other, if◌then◌else◌}
 use Rattle.std.proofs.lemmas.Bool.{eqb-true, eqb-false, ltb-true, ltb-false}
 use Rattle.std.proofs.lemmas.List.{set_past}
 use Rattle.std.specs.Fn.{iterate}
@@ -13,15 +13,13 @@ use Rattle.pdp_alu.specs.Multiplication.{mul_effect}
 use Rattle.pdp_alu.specs.declared.effect.Effect.{Effect}
 use Rattle.pdp_alu.specs.declared.quotient.Div.{Div}
 use Rattle.pdp_alu.specs.declared.quotient.Div.TheVariants.{Done, Kept}
-use Rattle.pdp_kt11.specs.declared.mode.Mode.{Mode}
 use Rattle.pdp_store.specs.CycleLogs.{KeptCycles}
 use Rattle.pdp_io_page.specs.Handbook.Reset.{io_page_reset}
 use Rattle.pdp_io_page.specs.Handbook.Status.{status_codes, status_of_word}
 use Rattle.pdp_io_page.specs.declared.status.Status.{Status}
-use Rattle.pdp_unibus.specs.Handbook.BusWorld.{BusWorld}
 use Rattle.pdp_operand.specs.Handbook.Operand.{mode_now, named_register_id}
 use Rattle.pdp_operand.specs.Handbook.Processor.{register_of, with_register}
-use Rattle.pdp_operand.specs.Phases.Phase.{Inner, State, inner_of, step, with_inner}
+use Rattle.pdp_operand.specs.Phases.Phase.{State, inner_of, with_inner}
 use Rattle.pdp_operand.specs.declared.processor.Processor.{Processor}
 use Rattle.pdp_operand.specs.declared.processor.RegisterId.{RegisterId}
 use Rattle.pdp_operand.specs.declared.processor.RegisterId.TheVariants.{R0, R1, R2, R3, R4, R5, KernelStack, ProgramCounter, UserStack}
@@ -29,15 +27,15 @@ use Rattle.pdp_instruction.specs.Handbook.Control.{is_user, reset}
 use Rattle.pdp_instruction.specs.Handbook.Extended.{codes_of, divide, long_in, multiply, named_pair, pair_with_words, shift, shift_pair, with_quotient}
 use Rattle.pdp_instruction.specs.Handbook.ReturnFromTrap.{keep_counter, return_from_trap, returned_status, returned_to_user}
 use Rattle.pdp_instruction.specs.declared.pair.Pair.{Pair}
-use Rattle.pdp_made.specs.Cells.{byte_in, BusData, Data, DataCell, CoreByte, DriveByte, RegisterByte, CodeNow, Buffer, ValueByte, SourceByte, ResultByte, StatusByte, CodeDue, CodeSaved, EachSame, Half, Low, Same, SameShape, data_of, data_on, flag_due, flag_in, processor_with, with_data}
+use Rattle.pdp_made.specs.Cells.{byte_in, Data, DataCell, CoreByte, DriveByte, RegisterByte, CodeNow, Buffer, ValueByte, SourceByte, ResultByte, StatusByte, CodeDue, CodeSaved, EachSame, Low, SameShape, data_of, flag_in, processor_with, with_data}
 use Rattle.pdp_made.specs.EffectRows.{value_halves}
-use Rattle.pdp_made.specs.InstructionRows.{codes_changed, divide_row, due_changed, multiply_row, pair_cells, pair_changed, return_from_trap_row, shift_cells, shift_pair_row, shift_row, with_operand_cells}
+use Rattle.pdp_made.specs.InstructionRows.{divide_row, due_changed, multiply_row, pair_cells, pair_changed, return_from_trap_row, shift_cells, shift_pair_row, shift_row, with_operand_cells}
 use Rattle.pdp_made.specs.OperandRows.{keeps_data}
-use Rattle.pdp_made.specs.PhaseRows.{IsSoundRow, PhaseRow, Tells, of_itself}
-use Rattle.pdp_made.specs.ReferenceRows.{Halves, halves_of, of_each, register_changed, whole_of}
+use Rattle.pdp_made.specs.PhaseRows.{IsSoundRow, Tells, of_itself}
+use Rattle.pdp_made.specs.ReferenceRows.{halves_of, of_each, register_changed, whole_of}
 use Rattle.pdp_made.proofs.EffectSteps.{value_tells}
-use Rattle.pdp_made.proofs.Frames.{CodesTell, codes_are, itself_tells, on_same, sound_by}
-use Rattle.pdp_made.proofs.Halves.{HalvesTell, codes_tell, each_back, each_front, each_tells, whole_tells}
+use Rattle.pdp_made.proofs.Frames.{codes_are, itself_tells, sound_by}
+use Rattle.pdp_made.proofs.Halves.{codes_tell, each_back, each_front, each_tells, whole_tells}
 use Rattle.pdp_made.proofs.Registers.{WordsTell, register_set, register_tells, size_after}
 
 -- A register that is set to the word that it has
@@ -248,8 +246,8 @@ shifts r = sound_by _ (λ saved s d log shape.
     let id : RegisterId = named_register_id (inner_of s) r in
     let from : List DataCell = shift_cells id in
     let same : (EachSame d (data_of saved s) from → ash_effect (register_of (processor_with d.words s.world.processor) id) d.value ≡ ash_effect (register_of s.world.processor id) s.latch.value) =
-        λ all. ash_same _ _ d.value s.latch.value (register_is saved s d shape id (each_front d (data_of saved s) (whole_of (halves_of id)) (ValueByte Low ∷ []) all))
-        (each_back d (data_of saved s) (whole_of (halves_of id)) (ValueByte Low ∷ []) all).0 in
+    λ all. ash_same _ _ d.value s.latch.value (register_is saved s d shape id (each_front d (data_of saved s) (whole_of (halves_of id)) (ValueByte Low ∷ []) all))
+    (each_back d (data_of saved s) (whole_of (halves_of id)) (ValueByte Low ∷ []) all).0 in
     due_of_one d (data_of saved s) id from _ _ (λ all. ap (λ effect. effect.codes) (same all)) _ _
     (register_set d (data_of saved s) (of_each from) (due_changed from) _ _ (each_tells d (data_of saved s) from _ _ (λ all. ap (λ effect. effect.value) (same all)))
     s.world.processor (processor_with d.words s.world.processor) id shape.words_size (λ n half all. all.0)))

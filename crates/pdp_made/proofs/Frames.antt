@@ -1,14 +1,12 @@
 -- What stays the same, cell by cell.
-use Rattle.std.proofs.Common.{◌≡◌, ◌∙◌, ℕ, Bool, true, false, List, [], ◌∷◌, length, slice_index, Option, None, Some, Result, Ok, Err, refl, ap, sym, subst, if◌then◌else◌}
+use Rattle.std.proofs.Common.{◌≡◌, ℕ, Bool, true, false, List, [], ◌∷◌, None, Some, refl, sym, subst}
 use Rattle.pdp_word.specs.declared.codes.Codes.{Codes}
 use Rattle.pdp_store.specs.CycleLogs.{KeptCycles}
-use Rattle.pdp_unibus.specs.Handbook.BusWorld.{BusWorld}
 use Rattle.pdp_operand.specs.Handbook.Operand.{with_stack_trap_if}
-use Rattle.pdp_operand.specs.Phases.Phase.{Phase, State, Stop, step, stop_at, internal_phase}
-use Rattle.pdp_operand.specs.Phases.World.{World, world}
+use Rattle.pdp_operand.specs.Phases.Phase.{State, step}
 use Rattle.pdp_operand.specs.declared.processor.Processor.{Processor}
 use Rattle.pdp_operand.specs.declared.processor.RegisterId.{RegisterId}
-use Rattle.pdp_made.specs.Cells.{AreAlike, BusData, Data, DataCell, CoreByte, DriveByte, RegisterByte, CodeNow, Buffer, ConditionCode, DeviceBuffer, Keyboard, Printer, Reader, Punch, Switches, flag_in, held_in, ValueByte, SourceByte, ResultByte, StatusByte, CodeDue, CodeSaved, EachSame, Same, SameShape, bus_with, data_at, data_of, data_on, processor_with, with_data}
+use Rattle.pdp_made.specs.Cells.{BusData, Data, DataCell, CoreByte, DriveByte, RegisterByte, CodeNow, Buffer, ConditionCode, DeviceBuffer, Keyboard, Printer, Reader, Punch, Switches, flag_in, held_in, ValueByte, SourceByte, ResultByte, StatusByte, CodeDue, CodeSaved, EachSame, SameShape, data_of, with_data}
 use Rattle.pdp_made.specs.EffectRows.{EffectCells, value_halves}
 use Rattle.pdp_made.specs.InstructionRows.{both_changed, codes_changed, effect_changed, result_changed, source_changed}
 use Rattle.pdp_made.specs.OperandRows.{value_changed}

@@ -1,14 +1,14 @@
 -- Words whose halves are the same: what is done to both.
-use Rattle.std.proofs.Common.{◌≡◌, ◌∙◌, ℕ, ◌+◌, ◌-◌, ◌*◌, ◌/◌, ◌%◌, ◌<◌, ◌==◌, Bool, true, false, List, [], ◌∷◌, ◌++◌, refl, ap, ap₂, sym, arith, nat_lt, if◌then◌else◌}
+use Rattle.std.proofs.Common.{◌≡◌, ℕ, ◌+◌, ◌-◌, ◌*◌, ◌/◌, ◌%◌, ◌<◌, ◌==◌, Bool, true, false, List, [], ◌∷◌, ◌++◌, refl, ap, arith, nat_lt, if◌then◌else◌}
 use Rattle.pdp_word.specs.Size.{span}
 use Rattle.pdp_word.specs.Word.{less, sign_extended}
 use Rattle.pdp_word.specs.declared.size.Size.{Size}
 use Rattle.pdp_word.specs.declared.size.Size.TheVariants.{Word, Byte}
 use Rattle.pdp_word.specs.declared.codes.Codes.{Codes}
 use Rattle.pdp_io_page.specs.Handbook.Status.{status_codes}
-use Rattle.pdp_made.specs.Cells.{Half, Low, High, byte_in, Data, DataCell, EachSame, CodeNow, ConditionCode, Negative, Zero, Overflow, Carry, flag_in}
+use Rattle.pdp_made.specs.Cells.{Half, Low, High, byte_in, Data, DataCell, EachSame, ConditionCode, Negative, Zero, Overflow, Carry, flag_in}
 use Rattle.pdp_made.specs.EffectRows.{going_up}
-use Rattle.pdp_made.specs.ReferenceRows.{Halves, cut_to, of_each, with_low_byte, with_high_byte, extended_byte, whole_of, each_code}
+use Rattle.pdp_made.specs.ReferenceRows.{Halves, cut_to, of_each, with_low_byte, with_high_byte, extended_byte, whole_of}
 
 -- two words with the same halves are the same
 from_halves : (a b : ℕ) → a % 256 ≡ b % 256 → a / 256 ≡ b / 256 → a ≡ b

@@ -1,15 +1,9 @@
 -- The rows of instructions are sound.
-use Rattle.std.proofs.Common.{◌≡◌, ◌∙◌, ◌<◌, ℕ, ◌+◌, ◌*◌, ◌/◌, ◌%◌, ◌==◌, ◌&&◌, ◌||◌, not, Bool, true, false, List, [], ◌∷◌, ◌++◌, ℤ, length, slice_index, Option, None, Some, is_some, Result, Ok, Err, refl, ap, ap₂, sym, arith, true≢false, if◌then◌else◌}
-use Rattle.pdp_word.specs.Size.{span}
-use Rattle.pdp_word.specs.Word.{less}
+use Rattle.std.proofs.Common.{◌≡◌, ◌∙◌, ◌<◌, ℕ, ◌+◌, ◌*◌, ◌%◌, ◌==◌, ◌&&◌, ◌||◌, not, Bool, true, false, List, [], ◌∷◌, ℤ, Option, None, Some, is_some, refl, ap, sym, arith, true≢false, if◌then◌else◌}
 use Rattle.pdp_word.specs.declared.codes.Codes.{Codes}
 use Rattle.pdp_word.specs.declared.size.Size.{Size}
-use Rattle.pdp_word.specs.declared.size.Size.TheVariants.{Word, Byte}
 use Rattle.pdp_alu.specs.declared.effect.Effect.{Effect}
-use Rattle.pdp_kt11.specs.declared.mode.Mode.{Mode}
 use Rattle.pdp_store.specs.CycleLogs.{KeptCycles}
-use Rattle.pdp_io_page.specs.Handbook.Reset.{io_page_reset}
-use Rattle.pdp_unibus.specs.Handbook.BusWorld.{BusWorld}
 use Rattle.pdp_action.specs.Condition.{is_taken}
 use Rattle.pdp_action.specs.declared.condition.Condition.{Condition}
 use Rattle.pdp_action.specs.declared.operation.Combination.{Combination}
@@ -18,9 +12,9 @@ use Rattle.pdp_action.specs.declared.operation.Modification.{Modification}
 use Rattle.pdp_action.specs.declared.operation.Replacement.{Replacement}
 use Rattle.pdp_action.specs.declared.trap.Trap.{Trap}
 use Rattle.pdp_action.specs.declared.trap.Trap.TheVariants.{Reserved}
-use Rattle.pdp_operand.specs.Handbook.Operand.{mode_now, named_register_id, with_stack_trap_if}
-use Rattle.pdp_operand.specs.Handbook.Processor.{processor_advanced, processor_retreated, register_of, with_register}
-use Rattle.pdp_operand.specs.Phases.Phase.{Inner, Phase, State, Nothing, Raise, by_request, inner_of, internal_phase, raising, step}
+use Rattle.pdp_operand.specs.Handbook.Operand.{mode_now, named_register_id}
+use Rattle.pdp_operand.specs.Handbook.Processor.{processor_retreated, register_of, with_register}
+use Rattle.pdp_operand.specs.Phases.Phase.{State, Nothing, Raise, by_request, inner_of, internal_phase, raising, step}
 use Rattle.pdp_operand.specs.declared.place.Place.{Place}
 use Rattle.pdp_operand.specs.declared.place.Place.TheVariants.{Reg, Mem}
 use Rattle.pdp_operand.specs.declared.processor.Processor.{Processor}
@@ -28,7 +22,7 @@ use Rattle.pdp_operand.specs.declared.processor.RegisterId.{RegisterId}
 use Rattle.pdp_operand.specs.declared.processor.RegisterId.TheVariants.{ProgramCounter}
 use Rattle.pdp_instruction.specs.Handbook.Branch.{branch_phase, branch_taken, subtract_one}
 use Rattle.pdp_instruction.specs.Handbook.ChangeCodes.{clear_codes, codes_cleared, codes_joined, set_codes}
-use Rattle.pdp_instruction.specs.Handbook.Control.{halt, is_user, reset, wait}
+use Rattle.pdp_instruction.specs.Handbook.Control.{halt, is_user, wait}
 use Rattle.pdp_instruction.specs.Handbook.Execute.{store_codes, with_effect}
 use Rattle.pdp_instruction.specs.Handbook.Jump.{aim, jump, link, return_by, set_register, take_link, take_mark}
 use Rattle.pdp_instruction.specs.Handbook.Moves.{execute_mov}
@@ -36,17 +30,17 @@ use Rattle.pdp_instruction.specs.Handbook.OneOperand.{execute_modification, exec
 use Rattle.pdp_instruction.specs.Handbook.Operands.{keep_source, take_register}
 use Rattle.pdp_instruction.specs.Handbook.PreviousMode.{cross}
 use Rattle.pdp_instruction.specs.Handbook.TwoOperands.{execute_combination, execute_comparison}
-use Rattle.pdp_made.specs.Cells.{byte_in, BusData, Data, DataCell, CodeDue, CodeNow, ConditionCode, Negative, Zero, Overflow, Carry, EachSame, Half, Same, SameShape, data_of, data_on, flag_due, flag_in, processor_with, with_data}
+use Rattle.pdp_made.specs.Cells.{byte_in, Data, CodeNow, ConditionCode, Negative, Zero, Overflow, Carry, EachSame, SameShape, data_of, data_on, flag_in, processor_with, with_data}
 use Rattle.pdp_made.specs.EffectRows.{EffectCells, combination_cells, comparison_cells, mov_cells, modification_cells, replacement_cells, tst_cells, value_halves}
-use Rattle.pdp_made.specs.InstructionRows.{aim_row, both_changed, clear_codes_row, codes_changed, codes_if_due, codes_outside, effect_changed, effect_row, keep_source_row, link_row, result_changed, set_codes_row, set_register_row, store_codes_row, subtract_one_row, take_link_row, take_mark_row, take_register_row}
+use Rattle.pdp_made.specs.InstructionRows.{aim_row, clear_codes_row, codes_changed, codes_if_due, codes_outside, effect_row, keep_source_row, link_row, set_codes_row, set_register_row, store_codes_row, subtract_one_row, take_link_row, take_mark_row, take_register_row}
 use Rattle.pdp_made.specs.OperandRows.{keeps_data, register_stepped, value_changed}
-use Rattle.pdp_made.specs.PhaseRows.{AreSoundRows, IsSoundRow, PhaseRow, Tells, TellsEnds, of_itself}
+use Rattle.pdp_made.specs.PhaseRows.{IsSoundRow, Tells, TellsEnds, of_itself}
 use Rattle.pdp_made.specs.ReferenceRows.{Halves, cut_to, halves_of, of_nothing, register_changed}
 use Rattle.pdp_made.proofs.EffectSteps.{EffectTells, combination_tells, comparison_tells, mov_tells, modification_tells, replacement_tells, tst_tells}
-use Rattle.pdp_made.proofs.Frames.{CodesTell, both_are, codes_are, effect_is, itself_tells, lost, lost_tells, on_same, result_is, sound_by, source_is, value_is, words_changed, words_marking}
+use Rattle.pdp_made.proofs.Frames.{CodesTell, both_are, codes_are, effect_is, itself_tells, lost_tells, on_same, result_is, sound_by, source_is, value_is, words_changed, words_marking}
 use Rattle.pdp_made.proofs.Halves.{HalvesTell, cut_tells}
 use Rattle.pdp_made.proofs.OperandSteps.{placed, retreated}
-use Rattle.pdp_made.proofs.Registers.{WordsTell, register_set, register_tells}
+use Rattle.pdp_made.proofs.Registers.{register_set, register_tells}
 
 -- The two operands
 pub keeps_source : IsSoundRow keep_source_row

@@ -1,5 +1,5 @@
 -- The rows of the phases that find, read and write operands are sound.
-use Rattle.std.proofs.Common.{◌≡◌, ◌<◌, ℕ, ◌+◌, ◌%◌, Bool, true, false, List, [], ◌∷◌, length, Option, None, Some, Result, Ok, Err, refl, ap, sym, ◌∙◌, arith, nat_le, if◌then◌else◌}
+use Rattle.std.proofs.Common.{◌≡◌, ◌<◌, ℕ, ◌+◌, ◌%◌, Bool, true, false, List, length, Option, None, refl, sym, ◌∙◌, arith, nat_le, if◌then◌else◌}
 use Rattle.pdp_word.specs.Size.{span}
 use Rattle.pdp_word.specs.Word.{less}
 use Rattle.pdp_word.specs.declared.codes.Codes.{Codes}
@@ -14,8 +14,7 @@ use Rattle.pdp_decode.specs.declared.instruction.Specifier.TheVariants.{Register
 use Rattle.pdp_operand.specs.Handbook.Operand.{codes_left, filled_register, grow, index, is_status, indirect, is_lowered_to_red, lower, mode_now, name_register, named_register_id, point, read_before_write, read_operand, step_of, with_stack_trap_if, write_operand}
 use Rattle.pdp_operand.specs.Handbook.Processor.{register_of, with_register}
 use Rattle.pdp_operand.specs.Handbook.RegisterId.{register_id_of}
-use Rattle.pdp_operand.specs.Handbook.Reference.{Reference, reference_to, translation}
-use Rattle.pdp_operand.specs.Phases.Phase.{Inner, Phase, State, Nothing, Raise, by_request, inner_of, step}
+use Rattle.pdp_operand.specs.Phases.Phase.{Inner, State, Nothing, Raise, by_request, inner_of, step}
 use Rattle.pdp_operand.specs.declared.place.Cell as places
 use Rattle.pdp_operand.specs.declared.place.Fill.{Fill}
 use Rattle.pdp_operand.specs.declared.place.Fill.TheVariants as fill
@@ -24,17 +23,16 @@ use Rattle.pdp_operand.specs.declared.place.Place.TheVariants.{Reg, Mem}
 use Rattle.pdp_operand.specs.declared.processor.Processor.{Processor}
 use Rattle.pdp_operand.specs.declared.processor.RegisterId.{RegisterId}
 use Rattle.pdp_operand.specs.declared.processor.RegisterId.TheVariants.{ProgramCounter}
-use Rattle.pdp_made.specs.Cells.{BusData, Data, DataCell, CoreByte, DriveByte, RegisterByte, CodeNow, Buffer, ValueByte, SourceByte, ResultByte, StatusByte, CodeDue, CodeSaved, ConditionCode, EachSame, Half, Same, SameShape, data_of, data_on, flag_due, processor_with, with_data}
+use Rattle.pdp_made.specs.Cells.{BusData, Data, DataCell, CoreByte, DriveByte, RegisterByte, CodeNow, Buffer, ValueByte, SourceByte, ResultByte, StatusByte, CodeDue, CodeSaved, ConditionCode, SameShape, data_of, data_on, flag_due, processor_with, with_data}
 use Rattle.pdp_made.specs.EffectRows.{going_up}
 use Rattle.pdp_made.specs.OperandRows.{changed_by_write, find_rows, grow_row, halves_of_operand, halves_of_result, keeps_data, lower_row, read_before_write_row, read_row, register_stepped, value_changed, write_row}
-use Rattle.pdp_made.specs.PhaseRows.{AreSoundRows, IsSoundRow, PhaseRow, Tells, TellsEnds, of_itself}
-use Rattle.pdp_made.specs.ReferenceRows.{Halves, changed_by_reference, changed_if_placed, cut_to, halves_filled, halves_of, place_of_write, register_changed}
-use Rattle.pdp_made.proofs.Frames.{HoldsWithData, itself_tells, lost, lost_tells, on_same, sound_by, value_is, words_changed, words_marking}
+use Rattle.pdp_made.specs.PhaseRows.{AreSoundRows, IsSoundRow, Tells, TellsEnds, of_itself}
+use Rattle.pdp_made.specs.ReferenceRows.{Halves, changed_by_reference, changed_if_placed, cut_to, halves_filled, halves_of, place_of_write}
+use Rattle.pdp_made.proofs.Frames.{itself_tells, lost_tells, on_same, sound_by, value_is, words_changed, words_marking}
 use Rattle.pdp_made.proofs.Halves.{HalvesTell, advanced_tells, cut_tells, extended_tells, low_byte_tells, retreated_tells}
-use Rattle.pdp_made.proofs.Readings.{read_at}
 use Rattle.pdp_made.proofs.References.{bus_made, here_after, read_step, there_after, write_step}
-use Rattle.pdp_made.proofs.Registers.{WordsTell, register_set, register_tells}
-use Rattle.pdp_made.proofs.Writings.{BusTells, put_kind}
+use Rattle.pdp_made.proofs.Registers.{register_set, register_tells}
+use Rattle.pdp_made.proofs.Writings.{BusTells}
 
 -- a register that steps
 module _ (d e : Data) (p : Processor) (size : length d.words ≡ length e.words) (id : RegisterId) where

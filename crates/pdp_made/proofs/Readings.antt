@@ -1,8 +1,7 @@
 -- References that read: they leave all data, and what they read is made of the word that answers.
-use Rattle.std.proofs.Common.{◌≡◌, ◌∙◌, ℕ, ◌%◌, ◌/◌, ◌==◌, Bool, true, false, List, [], ◌∷◌, length, slice_index, Option, Result, Ok, Err, refl, ap, sym, if◌then◌else◌}
+use Rattle.std.proofs.Common.{◌≡◌, ℕ, ◌%◌, ◌/◌, ◌==◌, Bool, true, false, length, slice_index, Result, Ok, Err, refl, ap, if◌then◌else◌}
 use Rattle.pdp_word.specs.declared.size.Size.{Size}
 use Rattle.pdp_word.specs.declared.size.Size.TheVariants.{Word, Byte}
-use Rattle.pdp_word.specs.declared.codes.Codes.{Codes}
 use Rattle.pdp_kt11.specs.declared.kt.Kt.{Kt}
 use Rattle.pdp_kt11.specs.declared.mode.Mode.{Mode}
 use Rattle.pdp_kt11.specs.declared.place.Abort.{Abort}
@@ -14,14 +13,14 @@ use Rattle.pdp_io_page.specs.Handbook.Status.{status_word}
 use Rattle.pdp_io_page.specs.declared.io_page.IoPage.{IoPage}
 use Rattle.pdp_io_page.specs.declared.register.Register.{Register}
 use Rattle.pdp_io_page.specs.declared.register.Register.TheVariants as register
-use Rattle.pdp_unibus.specs.Handbook.BusWorld.{BusWorld, with_io_page, with_mapping}
+use Rattle.pdp_unibus.specs.Handbook.BusWorld.{BusWorld}
 use Rattle.pdp_unibus.specs.Handbook.Cycle.{Slave, Core, Device, Nobody, slave_at}
 use Rattle.pdp_action.specs.declared.trap.Trap.{Trap}
 use Rattle.pdp_operand.specs.Handbook.Operand.{reading}
-use Rattle.pdp_operand.specs.Handbook.Reference.{Kind, ReadWord, ReadByte, Reference, half_at, is_odd, perform, reference_to, translation}
+use Rattle.pdp_operand.specs.Handbook.Reference.{Reference, half_at, is_odd, perform, reference_to, translation}
 use Rattle.pdp_operand.proofs.Shape.{reply_by, shape_at, shape_by, shape_if, shape_of, perform_is}
-use Rattle.pdp_made.specs.Cells.{Half, Low, High, byte_in, BusData, Data, DataCell, CoreByte, CodeNow, EachSame, SameShape, bus_with, data_on, io_page_with}
-use Rattle.pdp_made.specs.ReferenceRows.{Halves, cells_of_device, half_of_address, halves_at, halves_if_placed, halves_read, halves_referred}
+use Rattle.pdp_made.specs.Cells.{Half, Low, High, byte_in, Data, EachSame, bus_with, data_on, io_page_with}
+use Rattle.pdp_made.specs.ReferenceRows.{Halves, cells_of_device, halves_at, halves_if_placed, halves_read, halves_referred}
 use Rattle.pdp_made.proofs.Halves.{HalvesTell, codes_same}
 
 -- A read leaves all data.

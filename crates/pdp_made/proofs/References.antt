@@ -1,20 +1,20 @@
 -- Steps of phases that refer: what is left to show of the phase is what it makes of the reply.
-use Rattle.std.proofs.Common.{◌≡◌, ℕ, List, [], ◌∷◌, length, Result, Ok, Err, refl, sym, subst}
+use Rattle.std.proofs.Common.{◌≡◌, ℕ, List, Result, Ok, Err, refl, sym, subst}
 use Rattle.pdp_word.specs.declared.codes.Codes.{Codes}
 use Rattle.pdp_word.specs.declared.size.Size.{Size}
 use Rattle.pdp_kt11.specs.declared.mode.Mode.{Mode}
 use Rattle.pdp_store.specs.CycleLogs.{KeptCycles}
 use Rattle.pdp_unibus.specs.Handbook.BusWorld.{BusWorld}
 use Rattle.pdp_action.specs.declared.trap.Trap.{Trap}
-use Rattle.pdp_operand.specs.Handbook.Reference.{Reference, perform, translation}
+use Rattle.pdp_operand.specs.Handbook.Reference.{perform}
 use Rattle.pdp_operand.specs.Phases.Phase.{Phase, State, after_answer, after_reply, inner_of, state_of, with_inner}
-use Rattle.pdp_made.specs.Cells.{BusData, Data, DataCell, SameShape, bus_with, data_of, data_on, latch_with_data, processor_with, with_data}
+use Rattle.pdp_made.specs.Cells.{Data, DataCell, SameShape, bus_with, data_of, data_on, latch_with_data, processor_with, with_data}
 use Rattle.pdp_made.specs.PhaseRows.{Tells, TellsEnds, of_itself}
 use Rattle.pdp_made.specs.ReferenceRows.{Halves, changed_if_placed, halves_referred, place_of_write}
 use Rattle.pdp_made.proofs.Frames.{lost, lost_tells, on_same}
 use Rattle.pdp_made.proofs.Halves.{HalvesTell}
 use Rattle.pdp_made.proofs.Readings.{ValuesTell, read_at, read_keeps_data, read_tells}
-use Rattle.pdp_made.proofs.Writings.{BusTells, RepliesTell, put_here, put_kind, put_there, write_tells}
+use Rattle.pdp_made.proofs.Writings.{BusTells, RepliesTell, put_here, put_there, write_tells}
 
 module _ (p : Phase) (made : DataCell → List DataCell) (saved : Codes) (s : State) (d : Data) (log : KeptCycles) (shape : SameShape d (data_of saved s)) where
   -- the state after a reference that left this bus, with other data and as it is

@@ -1,5 +1,5 @@
 -- Registers that are read, and registers that are set.
-use Rattle.std.proofs.Common.{◌≡◌, ◌<◌, ◌∙◌, ℕ, ◌+◌, ◌%◌, ◌==◌, Bool, true, false, List, [], ◌∷◌, length, slice_index, slice_set, nat_lt, sym, ap, length-set, get_or-set_same, get_or-set_other, refl, if◌then◌else◌}
+use Rattle.std.proofs.Common.{◌≡◌, ◌∙◌, ℕ, ◌==◌, Bool, true, false, List, length, slice_index, slice_set, nat_lt, sym, ap, length-set, get_or-set_same, get_or-set_other, refl, if◌then◌else◌}
 use Rattle.std.proofs.lemmas.Bool.{eqb-true, eqb-false, ltb-true, ltb-false}
 use Rattle.std.proofs.lemmas.List.{set_past, get_or_past}
 use Rattle.pdp_operand.specs.Handbook.Processor.{register_of, with_register}

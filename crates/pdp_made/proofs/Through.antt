@@ -1,9 +1,9 @@
 -- Rows one after the other: if each is sound, all are.
-use Rattle.std.proofs.Common.{◌≡◌, ◌∙◌, ℕ, List, [], ◌∷◌, ◌++◌, flat_map, Result, Ok, Err, refl, subst}
+use Rattle.std.proofs.Common.{List, [], ◌∷◌, flat_map, Result, Ok, Err}
 use Rattle.pdp_word.specs.declared.codes.Codes.{Codes}
 use Rattle.pdp_operand.specs.Phases.Phase.{State, Stop, run, step, and_then}
-use Rattle.pdp_made.specs.Cells.{AreAlike, Data, DataCell, EachSame, Same, WorldsAlike, data_at, data_of}
-use Rattle.pdp_made.specs.PhaseRows.{AreSoundRows, BothEndAlike, GoTheSameWay, IsSoundRow, PhaseRow, PlansTell, Tells, TellsEnds, made_next, made_through, of_itself, phases_in}
+use Rattle.pdp_made.specs.Cells.{AreAlike, Data, DataCell, EachSame, data_of}
+use Rattle.pdp_made.specs.PhaseRows.{BothEndAlike, GoTheSameWay, PhaseRow, PlansTell, Tells, TellsEnds, made_next, made_through, of_itself, phases_in}
 use Rattle.pdp_made.proofs.Halves.{each_back, each_front}
 
 pub each_of : (first : DataCell → List DataCell) (d e u t : Data) → Tells first d e u t → (xs : List DataCell) → EachSame d e (flat_map first xs) → EachSame u t xs

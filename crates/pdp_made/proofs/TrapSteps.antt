@@ -1,19 +1,16 @@
 -- The rows of the sequences of traps, and of the fetch, are sound.
-use Rattle.std.proofs.Common.{◌≡◌, ◌∙◌, ◌<◌, ℕ, ◌+◌, ◌%◌, ◌&&◌, Bool, true, false, List, [], ◌∷◌, ◌++◌, length, slice_index, Option, Some, None, Result, Ok, Err, refl, ap, sym, arith, if◌then◌else◌}
+use Rattle.std.proofs.Common.{◌≡◌, ◌∙◌, ◌<◌, ℕ, ◌+◌, ◌&&◌, Bool, true, false, List, [], ◌∷◌, length, slice_index, refl, ap, sym, arith}
 use Rattle.pdp_word.specs.declared.codes.Codes.{Codes}
 use Rattle.pdp_word.specs.declared.size.Size.{Size}
 use Rattle.pdp_word.specs.declared.size.Size.TheVariants.{Word}
 use Rattle.pdp_kt11.specs.declared.mode.Mode.{Mode}
 use Rattle.pdp_kt11.specs.declared.mode.Mode.TheVariants.{Kernel}
 use Rattle.pdp_store.specs.CycleLogs.{KeptCycles}
-use Rattle.pdp_io_page.specs.Handbook.Status.{status_codes, status_of_word, status_word}
-use Rattle.pdp_unibus.specs.Handbook.BusWorld.{BusWorld}
+use Rattle.pdp_io_page.specs.Handbook.Status.{status_codes, status_of_word}
 use Rattle.pdp_decode.specs.declared.instruction.Instr.{Instr}
-use Rattle.pdp_operand.specs.Handbook.Operand.{mode_now, with_stack_trap_if}
+use Rattle.pdp_operand.specs.Handbook.Operand.{mode_now}
 use Rattle.pdp_operand.specs.Handbook.Processor.{register_of, with_register}
-use Rattle.pdp_operand.specs.Handbook.Reference.{Reference, WriteWord, reference_to}
-use Rattle.pdp_operand.specs.Phases.Phase.{State, inner_of, step, with_inner}
-use Rattle.pdp_operand.specs.declared.place.Cell as places
+use Rattle.pdp_operand.specs.Phases.Phase.{State, inner_of, step}
 use Rattle.pdp_operand.specs.declared.place.Place.{Place}
 use Rattle.pdp_operand.specs.declared.place.Place.TheVariants.{Reg, Mem}
 use Rattle.pdp_operand.specs.declared.processor.Processor.{Processor}
@@ -21,19 +18,17 @@ use Rattle.pdp_operand.specs.declared.processor.RegisterId.TheVariants.{KernelSt
 use Rattle.pdp_instruction.specs.Handbook.Instruction.{fetch_instruction, note_trace, traces, with_trace_trap_if}
 use Rattle.pdp_instruction.specs.Handbook.TrapSequence.{bare_stack, enter, enter_red, give_up, new_mode, put_word, save, vector_counter, vector_status}
 use Rattle.pdp_instruction.specs.declared.saved_context.SavedContext.{SavedContext}
-use Rattle.pdp_made.specs.Cells.{byte_in, BusData, Data, DataCell, CoreByte, DriveByte, RegisterByte, CodeNow, Buffer, ValueByte, SourceByte, ResultByte, StatusByte, CodeDue, CodeSaved, ConditionCode, DeviceBuffer, Keyboard, Printer, Reader, Punch, Switches, EachSame, Half, Low, Same, SameShape, data_of, data_on, flag_in, held_in, processor_with, with_data}
-use Rattle.pdp_made.specs.InstructionRows.{codes_changed}
+use Rattle.pdp_made.specs.Cells.{byte_in, BusData, Data, CoreByte, DriveByte, RegisterByte, CodeNow, Buffer, ValueByte, SourceByte, ResultByte, StatusByte, CodeDue, CodeSaved, DeviceBuffer, Keyboard, Printer, Reader, Punch, Switches, EachSame, Half, Low, SameShape, data_of, data_on, flag_in, held_in, processor_with, with_data}
 use Rattle.pdp_made.specs.OperandRows.{keeps_data, lower_row}
-use Rattle.pdp_made.specs.PhaseRows.{AreSoundRows, IsSoundRow, PhaseRow, Tells, TellsEnds, of_itself}
-use Rattle.pdp_made.specs.ReferenceRows.{Halves, changed_by_reference, changed_if_placed, place_of_write, each_code, halves_referred, of_each, of_nothing, register_changed}
-use Rattle.pdp_made.specs.TrapRows.{bare_stack_row, enter_red_row, enter_row, give_up_row, halves_saved, of_new_status, put_at, put_word_row, red_rows, save_row, saved_counter, saved_status, status_changed, trap_rows, vector_status_row, with_saved_codes}
+use Rattle.pdp_made.specs.PhaseRows.{AreSoundRows, IsSoundRow, Tells, TellsEnds, of_itself}
+use Rattle.pdp_made.specs.ReferenceRows.{Halves, changed_by_reference, changed_if_placed, place_of_write, each_code, halves_referred, of_nothing, register_changed}
+use Rattle.pdp_made.specs.TrapRows.{bare_stack_row, enter_red_row, enter_row, give_up_row, halves_saved, of_new_status, put_at, put_word_row, red_rows, save_row, saved_counter, saved_status, status_changed, trap_rows, vector_status_row}
 use Rattle.pdp_made.proofs.Frames.{CodesTell, codes_are, itself_tells, on_same, sound_by, status_is, words_changed, words_marking}
 use Rattle.pdp_made.proofs.Halves.{HalvesTell, codes_same, codes_tell, each_tells}
 use Rattle.pdp_made.proofs.OperandSteps.{bus_changed, lowers, placed}
-use Rattle.pdp_made.proofs.Readings.{read_at}
-use Rattle.pdp_made.proofs.References.{bus_made, here_after, read_step, there_after, write_step}
+use Rattle.pdp_made.proofs.References.{read_step, write_step}
 use Rattle.pdp_made.proofs.Registers.{WordsTell, register_set}
-use Rattle.pdp_made.proofs.Writings.{BusTells, put_kind}
+use Rattle.pdp_made.proofs.Writings.{BusTells}
 
 -- A vector's words
 pub reads_counter : (vector : ℕ) → IsSoundRow (keeps_data (vector_counter vector))
@@ -177,14 +172,34 @@ notes_trace instr = sound_by _ (λ saved s d log shape. on_same of_itself d (dat
 
 -- All rows of the sequences
 pub trap_sound : (marks : Bool) (vector : ℕ) (context : SavedContext) → AreSoundRows (trap_rows marks vector context)
-trap_sound marks vector context =
-    (reads_counter vector, (reads_status vector, (pushes, (puts_word marks (saved_status context) halves_saved (status_saved context),
-    (pushes, (puts_word marks (saved_counter context) of_nothing (counter_saved context), (enters context, tt)))))))
+trap_sound marks vector context = (
+  reads_counter vector,
+  (
+    reads_status vector,
+    (
+      pushes,
+      (
+        puts_word marks (saved_status context) halves_saved (status_saved context),
+        (pushes, (puts_word marks (saved_counter context) of_nothing (counter_saved context), (enters context, tt))),
+      ),
+    ),
+  ),
+)
 
 pub red_sound : (context : SavedContext) → AreSoundRows (red_rows context)
-red_sound context =
-    (bares_stack, (reads_counter 4, (reads_status 4, (saves_word 2 (saved_status context) halves_saved (status_saved context),
-    (saves_word 0 (saved_counter context) of_nothing (counter_saved context), (enters_red context, tt))))))
+red_sound context = (
+  bares_stack,
+  (
+    reads_counter 4,
+    (
+      reads_status 4,
+      (
+        saves_word 2 (saved_status context) halves_saved (status_saved context),
+        (saves_word 0 (saved_counter context) of_nothing (counter_saved context), (enters_red context, tt)),
+      ),
+    ),
+  ),
+)
 
 pub give_up_sound : (context : SavedContext) → AreSoundRows (give_up_row context ∷ [])
 give_up_sound context = (gives_up context, tt)

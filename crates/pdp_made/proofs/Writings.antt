@@ -1,8 +1,7 @@
 -- References that write: what they change is made of what is written.
-use Rattle.std.proofs.Common.{◌≡◌, ◌∙◌, ℕ, ◌+◌, ◌-◌, ◌*◌, ◌%◌, ◌/◌, ◌==◌, Bool, true, false, List, [], ◌∷◌, ◌++◌, length, slice_index, slice_set, get_or, Option, None, Some, Result, Ok, Err, refl, ap, ap₂, sym, true≢false, if◌then◌else◌}
+use Rattle.std.proofs.Common.{◌≡◌, ◌∙◌, ℕ, ◌+◌, ◌-◌, ◌*◌, ◌%◌, ◌==◌, Bool, true, false, List, [], ◌∷◌, length, slice_index, slice_set, get_or, Result, Ok, Err, refl, ap₂, sym, true≢false, if◌then◌else◌}
 use Rattle.pdp_word.specs.declared.size.Size.{Size}
 use Rattle.pdp_word.specs.declared.size.Size.TheVariants.{Word, Byte}
-use Rattle.pdp_word.specs.declared.codes.Codes.{Codes}
 use Rattle.pdp_device.specs.Operation.{is_under_way}
 use Rattle.pdp_device.specs.Transmitter.{byte_written}
 use Rattle.pdp_device.specs.declared.transmitter.Transmitter.{Transmitter}
@@ -11,22 +10,21 @@ use Rattle.pdp_kt11.specs.declared.mode.Mode.{Mode}
 use Rattle.pdp_kt11.specs.declared.place.Abort.{Abort}
 use Rattle.pdp_console.specs.declared.kl.KlRegister.TheVariants.{KeyboardStatus, KeyboardBuffer, PrinterStatus, PrinterBuffer}
 use Rattle.pdp_tape.specs.Reader.{reader_status_written}
-use Rattle.pdp_tape.specs.declared.reader.Reader.{Reader as TapeReader}
 use Rattle.pdp_tape.specs.declared.pc11.Pc11Register.TheVariants.{ReaderStatus, ReaderBuffer, PunchStatus, PunchBuffer}
 use Rattle.pdp_store.specs.CycleLogs.{KeptCycles}
-use Rattle.pdp_io_page.specs.Handbook.Register.{after_byte, after_write, is_byte_written, value_in, word_with_byte}
-use Rattle.pdp_io_page.specs.Handbook.Status.{status_of_word, status_written, status_codes}
+use Rattle.pdp_io_page.specs.Handbook.Register.{after_byte, after_write, value_in, word_with_byte}
+use Rattle.pdp_io_page.specs.Handbook.Status.{status_of_word, status_written}
 use Rattle.pdp_io_page.specs.declared.io_page.IoPage.{IoPage}
 use Rattle.pdp_io_page.specs.declared.register.Register.{Register}
 use Rattle.pdp_io_page.specs.declared.register.Register.TheVariants as register
-use Rattle.pdp_unibus.specs.Handbook.BusWorld.{BusWorld, with_io_page, with_mapping}
+use Rattle.pdp_unibus.specs.Handbook.BusWorld.{BusWorld}
 use Rattle.pdp_unibus.specs.Handbook.Cycle.{Slave, Core, Device, Nobody, slave_at}
 use Rattle.pdp_action.specs.declared.trap.Trap.{Trap}
-use Rattle.pdp_operand.specs.Handbook.Reference.{Kind, WriteWord, WriteByte, Reference, Reply, is_odd, perform, reference_to, translation}
+use Rattle.pdp_operand.specs.Handbook.Reference.{Kind, WriteWord, WriteByte, Reference, is_odd, perform, reference_to, translation}
 use Rattle.pdp_operand.proofs.Shape.{reply_by, shape_at, shape_by, shape_if, shape_of, perform_is}
-use Rattle.pdp_made.specs.Cells.{Half, Low, High, byte_in, BusData, ConditionCode, flag_in, Data, DataCell, CoreByte, DriveByte, CodeNow, Buffer, DeviceBuffer, Keyboard, Printer, Reader, Punch, Switches, held_in, EachSame, SameShape, bus_with, data_on, io_page_with}
-use Rattle.pdp_made.specs.ReferenceRows.{Halves, buffer_put, cells_of_device, changed_by_reference, changed_if_placed, device_changed, half_of_address, halves_put, of_each, place_of_write, slave_changed, whole_of, with_byte_at}
-use Rattle.pdp_made.proofs.Halves.{HalvesTell, codes_same, codes_tell, each_tells, high_byte_tells, low_byte_tells, whole_tells}
+use Rattle.pdp_made.specs.Cells.{Half, Low, High, byte_in, BusData, ConditionCode, flag_in, Data, DataCell, CoreByte, DriveByte, CodeNow, Buffer, DeviceBuffer, Keyboard, Printer, Reader, Punch, Switches, held_in, EachSame, bus_with, data_on}
+use Rattle.pdp_made.specs.ReferenceRows.{Halves, cells_of_device, changed_if_placed, device_changed, halves_put, of_each, place_of_write, slave_changed, with_byte_at}
+use Rattle.pdp_made.proofs.Halves.{HalvesTell, codes_tell, each_tells, high_byte_tells, low_byte_tells, whole_tells}
 use Rattle.pdp_made.proofs.Readings.{device_tells}
 use Rattle.pdp_made.proofs.Registers.{set_tells}
 

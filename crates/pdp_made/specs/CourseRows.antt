@@ -1,6 +1,6 @@
 -- Rows of courses: of an instruction, its fetch and its traps with it. At a trap the codes of then
 -- are saved. No rule of the handbook is here but which rows follow which.
-use Rattle.std.specs.Prelude.{◌≡◌, ℕ, Bool, true, false, List, [], ◌∷◌, flat_map, Result, Ok, Err}
+use Rattle.std.specs.Prelude.{◌≡◌, ℕ, Bool, true, List, [], ◌∷◌, flat_map, Result, Ok, Err}
 use Rattle.pdp_word.specs.declared.codes.Codes.{Codes}
 use Rattle.pdp_action.specs.Action.{action_of}
 use Rattle.pdp_action.specs.declared.trap.Trap.{Trap}
@@ -13,8 +13,8 @@ use Rattle.pdp_instruction.specs.Handbook.Instruction.{fetch_instruction, instru
 use Rattle.pdp_instruction.specs.Handbook.TrapSequence.{saved_context_of, sequence, trap_vector}
 use Rattle.pdp_instruction.specs.declared.saved_context.SavedContext.{SavedContext}
 use Rattle.pdp_made.specs.Cells.{AreAlike, Data, DataCell, CoreByte, DriveByte, RegisterByte}
-use Rattle.pdp_made.specs.Cells.{CodeNow, Buffer, ValueByte, SourceByte, ResultByte, StatusByte}
-use Rattle.pdp_made.specs.Cells.{CodeDue, CodeSaved, EachSame, Same, data_left, data_of}
+use Rattle.pdp_made.specs.Cells.{CodeNow, Buffer}
+use Rattle.pdp_made.specs.Cells.{CodeSaved, EachSame, Same, data_left, data_of}
 use Rattle.pdp_made.specs.Cells.{no_saved_codes, with_data}
 use Rattle.pdp_made.specs.InstructionRows.{rows_of_action}
 use Rattle.pdp_made.specs.OperandRows.{keeps_data}

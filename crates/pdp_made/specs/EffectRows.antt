@@ -1,8 +1,8 @@
 -- What the value and the codes of each operation are made of: DEC PDP-11/40 Processor Handbook
 -- (1972), Instruction set.
-use Rattle.std.specs.Prelude.{ℕ, List, [], ◌∷◌, ◌++◌}
+use Rattle.std.specs.Prelude.{List, [], ◌∷◌, ◌++◌}
 use Rattle.pdp_word.specs.declared.size.Size.{Size}
-use Rattle.pdp_word.specs.declared.size.Size.TheVariants.{Word, Byte}
+use Rattle.pdp_word.specs.declared.size.Size.TheVariants.{Word}
 use Rattle.pdp_action.specs.declared.operation.Combination.{Combination}
 use Rattle.pdp_action.specs.declared.operation.Combination.TheVariants as combination
 use Rattle.pdp_action.specs.declared.operation.Comparison.{Comparison}
@@ -11,7 +11,7 @@ use Rattle.pdp_action.specs.declared.operation.Modification.{Modification}
 use Rattle.pdp_action.specs.declared.operation.Modification.TheVariants as modification
 use Rattle.pdp_action.specs.declared.operation.Replacement.{Replacement}
 use Rattle.pdp_action.specs.declared.operation.Replacement.TheVariants as replacement
-use Rattle.pdp_made.specs.Cells.{Half, Low, High, DataCell, CodeNow, SourceByte, ValueByte}
+use Rattle.pdp_made.specs.Cells.{Low, High, DataCell, CodeNow, SourceByte, ValueByte}
 use Rattle.pdp_made.specs.Cells.{ConditionCode, Negative, Zero, Overflow, Carry}
 use Rattle.pdp_made.specs.ReferenceRows.{Halves, cut_to, of_each, of_nothing, whole_of}
 

@@ -1,6 +1,6 @@
 -- Rows of each action: DEC PDP-11/40 Processor Handbook (1972), Instruction set, Extended
 -- instruction set and Memory management.
-use Rattle.std.specs.Prelude.{ℕ, ◌&&◌, Bool, true, false, List, [], ◌∷◌, ◌++◌, Option, Some, None}
+use Rattle.std.specs.Prelude.{ℕ, List, [], ◌∷◌, ◌++◌, Option, Some, None}
 use Rattle.std.specs.Prelude.{if◌then◌else◌}
 use Rattle.pdp_word.specs.declared.codes.Codes.{Codes}
 use Rattle.pdp_word.specs.declared.size.Size.{Size}
@@ -36,7 +36,7 @@ use Rattle.pdp_instruction.specs.Handbook.PreviousMode.{cross}
 use Rattle.pdp_instruction.specs.Handbook.ReturnFromTrap.{keep_counter, return_from_trap}
 use Rattle.pdp_instruction.specs.Handbook.TwoOperands.{execute_combination, execute_comparison}
 use Rattle.pdp_instruction.specs.declared.pair.Pair.{Pair}
-use Rattle.pdp_made.specs.Cells.{Half, Low, High, DataCell, CodeDue, CodeNow, ConditionCode}
+use Rattle.pdp_made.specs.Cells.{Low, DataCell, CodeDue, CodeNow, ConditionCode}
 use Rattle.pdp_made.specs.Cells.{ResultByte, SourceByte, ValueByte, flag_in}
 use Rattle.pdp_made.specs.EffectRows.{EffectCells, combination_cells, comparison_cells, mov_cells}
 use Rattle.pdp_made.specs.EffectRows.{modification_cells, replacement_cells, tst_cells}

@@ -1,9 +1,8 @@
 -- Rows of the phases that find, read and write operands: DEC PDP-11/40 Processor Handbook (1972),
 -- Addressing modes. An operand's place is no data, so finding one makes nothing but the new value
 -- of a register that steps.
-use Rattle.std.specs.Prelude.{ℕ, List, [], ◌∷◌, ◌++◌}
+use Rattle.std.specs.Prelude.{ℕ, List, [], ◌∷◌}
 use Rattle.pdp_word.specs.declared.size.Size.{Size}
-use Rattle.pdp_word.specs.declared.size.Size.TheVariants.{Word}
 use Rattle.pdp_kt11.specs.declared.mode.Mode.{Mode}
 use Rattle.pdp_decode.specs.declared.instruction.Specifier.{Specifier}
 use Rattle.pdp_decode.specs.declared.instruction.Specifier.TheVariants.{Register, Deferred}
@@ -22,11 +21,11 @@ use Rattle.pdp_operand.specs.declared.place.Fill.{Fill}
 use Rattle.pdp_operand.specs.declared.place.Place.{Place}
 use Rattle.pdp_operand.specs.declared.place.Place.TheVariants.{Reg, Mem}
 use Rattle.pdp_operand.specs.declared.processor.RegisterId.{RegisterId}
-use Rattle.pdp_made.specs.Cells.{Half, Low, High, DataCell, ValueByte, ResultByte}
+use Rattle.pdp_made.specs.Cells.{DataCell, ValueByte, ResultByte}
 use Rattle.pdp_made.specs.EffectRows.{going_up}
 use Rattle.pdp_made.specs.PhaseRows.{PhaseRow, of_itself}
 use Rattle.pdp_made.specs.ReferenceRows.{Halves, changed_by_reference, cut_to, halves_filled}
-use Rattle.pdp_made.specs.ReferenceRows.{halves_of, halves_referred, register_changed, whole_of}
+use Rattle.pdp_made.specs.ReferenceRows.{halves_of, halves_referred, register_changed}
 
 -- a phase that changes no data
 abbrev pub keeps_data : Phase → PhaseRow

@@ -26,7 +26,6 @@ use Rattle.pdp_operand.specs.declared.processor.RegisterId.TheVariants.{UserStac
 use Rattle.pdp_made.specs.Cells.{Half, Low, High, DataCell, CoreByte, RegisterByte, CodeNow}
 use Rattle.pdp_made.specs.Cells.{Buffer, Keyboard, Printer, Reader, Switches, Punch}
 use Rattle.pdp_made.specs.Cells.{ConditionCode, Negative, Zero, Overflow, Carry}
-use Rattle.pdp_made.specs.PhaseRows.{of_itself}
 
 -- of which cells each half of a word is made
 abbrev pub Halves : Type 0

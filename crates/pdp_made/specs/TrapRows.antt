@@ -6,7 +6,7 @@ use Rattle.pdp_word.specs.declared.codes.Codes.{Codes}
 use Rattle.pdp_word.specs.declared.size.Size.TheVariants.{Word}
 use Rattle.pdp_kt11.specs.declared.mode.Mode.TheVariants.{Kernel}
 use Rattle.pdp_io_page.specs.Handbook.Status.{status_word}
-use Rattle.pdp_operand.specs.Phases.Phase.{Phase, State}
+use Rattle.pdp_operand.specs.Phases.Phase.{State}
 use Rattle.pdp_operand.specs.declared.place.Place.{Place}
 use Rattle.pdp_operand.specs.declared.place.Place.TheVariants.{Reg, Mem}
 use Rattle.pdp_operand.specs.declared.processor.RegisterId.TheVariants.{KernelStack}
@@ -14,7 +14,7 @@ use Rattle.pdp_instruction.specs.Handbook.TrapSequence.{bare_stack, enter, enter
 use Rattle.pdp_instruction.specs.Handbook.TrapSequence.{new_mode, put_word, save, vector_counter}
 use Rattle.pdp_instruction.specs.Handbook.TrapSequence.{vector_status}
 use Rattle.pdp_instruction.specs.declared.saved_context.SavedContext.{SavedContext}
-use Rattle.pdp_made.specs.Cells.{Half, Low, DataCell, CodeNow, CodeSaved, StatusByte}
+use Rattle.pdp_made.specs.Cells.{Low, DataCell, CodeSaved, StatusByte}
 use Rattle.pdp_made.specs.InstructionRows.{codes_changed}
 use Rattle.pdp_made.specs.OperandRows.{keeps_data, lower_row}
 use Rattle.pdp_made.specs.PhaseRows.{PhaseRow, of_itself}
