@@ -19,14 +19,14 @@ use Rattle.pdp_made.specs.Cells.{AreAlike, Data, DataCell, CoreByte, DriveByte, 
 use Rattle.pdp_made.specs.CourseRows.{CourseRows, Along, CoursesTell, Finished, GoAlong, InstructionsTell, IsSoundCourse, NextAlike, RowsFollowInstructions, RowsFollowSequences, Saving, SequencesTell, after_trap_rows, codes_at, follow_rows, instruction_course_rows, instruction_rows, made_after, made_along, of_lost_plan, of_saved_codes, red_course_rows, sequence_rows, trap_course_rows}
 use Rattle.pdp_made.specs.InstructionRows.{rows_of_action}
 use Rattle.pdp_made.specs.OperandRows.{keeps_data}
-use Rattle.pdp_made.specs.PhaseRows.{BothEndAlike, PhaseRow, Tells, TellsEnds, made_through, phases_in}
+use Rattle.pdp_made.specs.PhaseRows.{BothEndAlike, PhaseRow, CellsTell, TellsEnds, made_through, phases_in}
 use Rattle.pdp_made.specs.TrapRows.{give_up_row, red_rows, trap_rows, with_saved_codes}
 use Rattle.pdp_made.proofs.ActionRows.{rows_phases, rows_sound}
 use Rattle.pdp_made.proofs.Through.{each_of, ends_alike, through}
 use Rattle.pdp_made.proofs.TrapSteps.{fetches, give_up_sound, notes_trace, red_sound, trap_sound}
 
 -- after a course nothing is saved
-left_tells : (d e : Data) (codes : Codes) → Tells (λ c. c ∷ []) d e (record d { saved = codes }) (record e { saved = codes })
+left_tells : (d e : Data) (codes : Codes) → CellsTell (λ c. c ∷ []) d e (record d { saved = codes }) (record e { saved = codes })
 left_tells d e codes (CoreByte k half) all = all.0
 left_tells d e codes (DriveByte n k half) all = all.0
 left_tells d e codes (RegisterByte n half) all = all.0
@@ -40,7 +40,7 @@ left_tells d e codes (CodeDue code) all = all.0
 left_tells d e codes (CodeSaved code) all = refl
 
 -- what is saved becomes the codes of now
-saved_tells : (d e : Data) → Tells of_saved_codes d e (record d { saved = d.bus.codes }) (record e { saved = e.bus.codes })
+saved_tells : (d e : Data) → CellsTell of_saved_codes d e (record d { saved = d.bus.codes }) (record e { saved = e.bus.codes })
 saved_tells d e (CoreByte k half) all = all.0
 saved_tells d e (DriveByte n k half) all = all.0
 saved_tells d e (RegisterByte n half) all = all.0
@@ -55,8 +55,8 @@ saved_tells d e (CodeSaved code) all = all.0
 
 -- at a trap the latch is the one from before the plan
 module _ (first : DataCell → List DataCell) (saved other : Codes) (s u : State) (stop end : Stop)
-    (tells : Tells first (data_of other u) (data_of saved s) (data_at other end.world) (data_at saved stop.world)) where
-  lost_plan_tells : Tells (of_lost_plan first) (data_of other u) (data_of saved s) (data_of other (caught_in u.latch end)) (data_of saved (caught_in s.latch stop))
+    (tells : CellsTell first (data_of other u) (data_of saved s) (data_at other end.world) (data_at saved stop.world)) where
+  lost_plan_tells : CellsTell (of_lost_plan first) (data_of other u) (data_of saved s) (data_of other (caught_in u.latch end)) (data_of saved (caught_in s.latch stop))
   lost_plan_tells (CoreByte k half) all = tells (CoreByte k half) all
   lost_plan_tells (DriveByte n k half) all = tells (DriveByte n k half) all
   lost_plan_tells (RegisterByte n half) all = tells (RegisterByte n half) all

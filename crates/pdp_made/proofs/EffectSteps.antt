@@ -23,7 +23,7 @@ use Rattle.pdp_action.specs.declared.operation.Modification.TheVariants as modif
 use Rattle.pdp_action.specs.declared.operation.Replacement.{Replacement}
 use Rattle.pdp_action.specs.declared.operation.Replacement.TheVariants as replacement
 use Rattle.pdp_made.specs.Cells.{Half, Low, High, byte_in, Data, Negative, Zero, Overflow, Carry, EachSame, flag_in}
-use Rattle.pdp_made.specs.EffectRows.{EffectCells, both_halves, clears_overflow, combination_cells, comparison_cells, complement_halves, exchanged_halves, going_down, going_up, keeps_carry, mov_cells, modification_cells, operands_of, replacement_cells, sets_codes, sets_signs, source_halves, straight, tst_cells, value_halves, value_made, with_carry}
+use Rattle.pdp_made.specs.EffectRows.{EffectCells, both_halves, clears_overflow, combination_cells, comparison_cells, complement_halves, exchanged_halves, going_down, going_up, keeps_carry, mov_cells, modification_cells, cells_of_operands, replacement_cells, sets_codes, sets_signs, source_halves, straight, tst_cells, value_halves, value_made, with_carry}
 use Rattle.pdp_made.specs.ReferenceRows.{Halves, cut_to}
 use Rattle.pdp_made.proofs.Frames.{CodesTell}
 use Rattle.pdp_made.proofs.Halves.{HalvesTell, cut_tells, whole_tells}
@@ -103,7 +103,7 @@ module _ (d e : Data) where
 
   -- an operand that is cut to its size
   module _ (size : Size) (from : Halves) (a b : ℕ) where
-    operand_same : HalvesTell d e from a b → EachSame d e (operands_of size from) → a % span size ≡ b % span size
+    operand_same : HalvesTell d e from a b → EachSame d e (cells_of_operands size from) → a % span size ≡ b % span size
     operand_same tells all = whole_tells d e (cut_to size from) _ _ (cut_tells d e size from a b tells) all
 
   -- a value whose bits stay in their halves
@@ -113,14 +113,14 @@ module _ (d e : Data) where
     straight_value Byte tells Low all = tells Low all
     straight_value Byte tells High all = no_high m n
 
-    up_value : (size : Size) → (EachSame d e (from Low) → m % span size % 256 ≡ n % span size % 256) → (EachSame d e (operands_of size from) → m % span size ≡ n % span size)
+    up_value : (size : Size) → (EachSame d e (from Low) → m % span size % 256 ≡ n % span size % 256) → (EachSame d e (cells_of_operands size from) → m % span size ≡ n % span size)
         → HalvesTell d e (value_made size going_up from) (m % span size) (n % span size)
     up_value Word low same Low all = low all
     up_value Word low same High all = ap (byte_in High) (same all)
     up_value Byte low same Low all = low all
     up_value Byte low same High all = no_high m n
 
-    down_value : (size : Size) → (EachSame d e (cut_to size from High) → m % span size / 256 ≡ n % span size / 256) → (EachSame d e (operands_of size from) → m % span size ≡ n % span size)
+    down_value : (size : Size) → (EachSame d e (cut_to size from High) → m % span size / 256 ≡ n % span size / 256) → (EachSame d e (cells_of_operands size from) → m % span size ≡ n % span size)
         → HalvesTell d e (value_made size going_down from) (m % span size) (n % span size)
     down_value Word high same Low all = ap (byte_in Low) (same all)
     down_value Word high same High all = high all
@@ -129,7 +129,7 @@ module _ (d e : Data) where
 
     -- N and Z of such a value, V and C as they are
     module _ (size : Size) (tells : HalvesTell d e (cut_to size from) (m % span size) (n % span size)) where
-      value_same : EachSame d e (operands_of size from) → m % span size ≡ n % span size
+      value_same : EachSame d e (cells_of_operands size from) → m % span size ≡ n % span size
       value_same all = whole_tells d e (cut_to size from) _ _ tells all
 
       signs_tell : (v c : Bool) → EffectTells (sets_signs size straight from) (effect size m v c) (effect size n v c)
@@ -187,7 +187,7 @@ module _ (d e : Data) where
 
   -- All codes are made of the operands; or C is kept
   all_codes : (size : Size) (way : Halves → Halves) (from : Halves) (x y : Effect) → HalvesTell d e (value_made size way from) x.value y.value
-      → (EachSame d e (operands_of size from) → x.codes ≡ y.codes) → EffectTells (sets_codes size way from) x y
+      → (EachSame d e (cells_of_operands size from) → x.codes ≡ y.codes) → EffectTells (sets_codes size way from) x y
   all_codes size way from x y value same = (value, codes)
     where
       codes : CodesTell d e (sets_codes size way from).codes x.codes y.codes
@@ -197,7 +197,7 @@ module _ (d e : Data) where
       codes Carry all = ap (flag_in Carry) (same all)
 
   carry_kept : (size : Size) (way : Halves → Halves) (from : Halves) (m n : ℕ) (v w : Bool) → HalvesTell d e (value_made size way from) (m % span size) (n % span size)
-      → (EachSame d e (operands_of size from) → m % span size ≡ n % span size) → (EachSame d e (operands_of size from) → v ≡ w)
+      → (EachSame d e (cells_of_operands size from) → m % span size ≡ n % span size) → (EachSame d e (cells_of_operands size from) → v ≡ w)
       → EffectTells (keeps_carry size way from) (effect size m v d.bus.codes.c) (effect size n w e.bus.codes.c)
   carry_kept size way from m n v w value same overflow = (value, codes)
     where
@@ -208,10 +208,10 @@ module _ (d e : Data) where
       codes Carry all = all.0
 
   -- CMP, and ADD and SUB
-  of_source : (size : Size) → EachSame d e (operands_of size both_halves) → d.source % span size ≡ e.source % span size
+  of_source : (size : Size) → EachSame d e (cells_of_operands size both_halves) → d.source % span size ≡ e.source % span size
   of_source size all = operand_same size both_halves d.source e.source (λ half same. same.0) all
 
-  of_value : (size : Size) → EachSame d e (operands_of size both_halves) → d.value % span size ≡ e.value % span size
+  of_value : (size : Size) → EachSame d e (cells_of_operands size both_halves) → d.value % span size ≡ e.value % span size
   of_value size all = operand_same size both_halves d.value e.value (λ half same. same.1.0) all
 
   abbrev cut_difference : Size → ℕ → ℕ → Effect
@@ -229,10 +229,10 @@ module _ (d e : Data) where
       (up_value both_halves _ _ Word (λ all. low_difference Word d.value e.value d.source e.source all.1.0 all.0) (λ all. ap₂ (λ v s. (cut_difference Word v s).value) (of_value Word all) (of_source Word all)))
       (λ all. ap₂ (λ v s. (cut_difference Word v s).codes) (of_value Word all) (of_source Word all))
 
-  whole_source : EachSame d e (operands_of Word both_halves) → d.source ≡ e.source
+  whole_source : EachSame d e (cells_of_operands Word both_halves) → d.source ≡ e.source
   whole_source all = whole_tells d e both_halves d.source e.source (λ half same. same.0) all
 
-  whole_value : EachSame d e (operands_of Word both_halves) → d.value ≡ e.value
+  whole_value : EachSame d e (cells_of_operands Word both_halves) → d.value ≡ e.value
   whole_value all = whole_tells d e both_halves d.value e.value (λ half same. same.1.0) all
 
   add_tells : EffectTells (combination_cells combination.Add) (add_effect d.source d.value) (add_effect e.source e.value)
@@ -256,13 +256,13 @@ module _ (d e : Data) where
   combination_tells combination.Xor = overflow_tells both_halves (bit_xor d.value d.source) (bit_xor e.value e.source) Word (cut_tells d e Word both_halves _ _ bits_xor)
 
   -- The operations of one operand
-  old_same : (size : Size) → EachSame d e (operands_of size value_halves) → d.value % span size ≡ e.value % span size
+  old_same : (size : Size) → EachSame d e (cells_of_operands size value_halves) → d.value % span size ≡ e.value % span size
   old_same size all = operand_same size value_halves d.value e.value value_tells all
 
-  old_too : (size : Size) → EachSame d e (operands_of size (with_carry value_halves)) → d.value % span size ≡ e.value % span size
+  old_too : (size : Size) → EachSame d e (cells_of_operands size (with_carry value_halves)) → d.value % span size ≡ e.value % span size
   old_too size all = operand_same size (with_carry value_halves) d.value e.value (λ half same. same.0) all
 
-  carry_same : (size : Size) → EachSame d e (operands_of size (with_carry value_halves)) → d.bus.codes.c ≡ e.bus.codes.c
+  carry_same : (size : Size) → EachSame d e (cells_of_operands size (with_carry value_halves)) → d.bus.codes.c ≡ e.bus.codes.c
   carry_same Word all = all.1.0
   carry_same Byte all = all.1.0
 

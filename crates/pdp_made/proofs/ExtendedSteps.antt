@@ -31,7 +31,7 @@ use Rattle.pdp_made.specs.Cells.{byte_in, Data, DataCell, CoreByte, DriveByte, R
 use Rattle.pdp_made.specs.EffectRows.{value_halves}
 use Rattle.pdp_made.specs.InstructionRows.{divide_row, due_changed, multiply_row, pair_cells, pair_changed, return_from_trap_row, shift_cells, shift_pair_row, shift_row, with_operand_cells}
 use Rattle.pdp_made.specs.OperandRows.{keeps_data}
-use Rattle.pdp_made.specs.PhaseRows.{IsSoundRow, Tells, of_itself}
+use Rattle.pdp_made.specs.PhaseRows.{IsSoundRow, CellsTell, of_itself}
 use Rattle.pdp_made.specs.ReferenceRows.{halves_of, of_each, register_changed, whole_of}
 use Rattle.pdp_made.proofs.EffectSteps.{value_tells}
 use Rattle.pdp_made.proofs.Frames.{codes_are, itself_tells, sound_by}
@@ -82,7 +82,7 @@ module _ (d e : Data) (pair : Pair) (from : List DataCell) where
   made c = pair_changed pair from c
 
   due_is : (x y : Codes) → (EachSame d e from → x ≡ y) → (ws vs : List ℕ) → WordsTell d e made ws vs
-      → Tells made d e (record d { words = ws; due = Some x }) (record e { words = vs; due = Some y })
+      → CellsTell made d e (record d { words = ws; due = Some x }) (record e { words = vs; due = Some y })
   due_is x y codes ws vs tells (CoreByte k half) all = all.0
   due_is x y codes ws vs tells (DriveByte n k half) all = all.0
   due_is x y codes ws vs tells (RegisterByte n half) all = tells n half all
@@ -227,7 +227,7 @@ module _ (d e : Data) (id : RegisterId) (from : List DataCell) where
   one_made c = register_changed id (of_each from) (due_changed from) c
 
   due_of_one : (x y : Codes) → (EachSame d e from → x ≡ y) → (ws vs : List ℕ) → WordsTell d e one_made ws vs
-      → Tells one_made d e (record d { words = ws; due = Some x }) (record e { words = vs; due = Some y })
+      → CellsTell one_made d e (record d { words = ws; due = Some x }) (record e { words = vs; due = Some y })
   due_of_one x y codes ws vs tells (CoreByte k half) all = all.0
   due_of_one x y codes ws vs tells (DriveByte n k half) all = all.0
   due_of_one x y codes ws vs tells (RegisterByte n half) all = tells n half all
@@ -275,7 +275,7 @@ returns_from_trap = sound_by _ (λ saved s d log shape. codes_are d (data_of sav
 
 -- RESET leaves the buffers
 reset_if : (user : Bool) (saved : Codes) (s : State) (d : Data) (log : KeptCycles)
-    → Tells of_itself d (data_of saved s)
+    → CellsTell of_itself d (data_of saved s)
     (data_of d.saved (with_inner (with_data d log s).world.bus (if user then inner_of (with_data d log s) else record (inner_of (with_data d log s)) { io_page = io_page_reset (inner_of (with_data d log s)).io_page })))
     (data_of saved (with_inner s.world.bus (if user then inner_of s else record (inner_of s) { io_page = io_page_reset (inner_of s).io_page })))
 unfolding io_page_reset

@@ -14,7 +14,7 @@ use Rattle.pdp_made.specs.ReferenceRows.{Halves, register_changed}
 use Rattle.pdp_made.specs.TrapRows.{status_changed}
 use Rattle.pdp_made.proofs.Halves.{HalvesTell}
 use Rattle.pdp_made.proofs.Registers.{WordsTell}
-use Rattle.pdp_made.specs.PhaseRows.{IsSoundRow, PhaseRow, Tells, TellsEnds, of_itself}
+use Rattle.pdp_made.specs.PhaseRows.{IsSoundRow, PhaseRow, CellsTell, TellsEnds, of_itself}
 
 -- The law of a row, with the other state written as the one with other data.
 abbrev pub HoldsWithData : PhaseRow → Type 0
@@ -29,14 +29,14 @@ sound_by row law = record {
 }
 
 -- each cell is the same after, if it was before
-pub itself_tells : (d e : Data) → Tells of_itself d e d e
+pub itself_tells : (d e : Data) → CellsTell of_itself d e d e
 itself_tells d e c all = all.0
 
 -- and at a trap, at which nothing is handed on
 abbrev pub lost : Data → Data
 lost d = record d { value = 0; source = 0; result = 0; status = 0; due = None }
 
-pub lost_tells : (d e : Data) → Tells of_itself d e (lost d) (lost e)
+pub lost_tells : (d e : Data) → CellsTell of_itself d e (lost d) (lost e)
 lost_tells d e (CoreByte k half) all = all.0
 lost_tells d e (DriveByte n k half) all = all.0
 lost_tells d e (RegisterByte n half) all = all.0
@@ -51,12 +51,12 @@ lost_tells d e (CodeSaved code) all = all.0
 
 -- the same bus and the same registers, as equations say
 pub on_same : (made : DataCell → List DataCell) (d e u t : Data) (x y : BusData) (ws vs : List ℕ) → x ≡ u.bus → y ≡ t.bus → ws ≡ u.words → vs ≡ t.words
-    → Tells made d e u t → Tells made d e (record u { bus = x; words = ws }) (record t { bus = y; words = vs })
+    → CellsTell made d e u t → CellsTell made d e (record u { bus = x; words = ws }) (record t { bus = y; words = vs })
 on_same made d e u t x y ws vs there here registers words tells =
-    subst (λ m. Tells made d e (record u { bus = m; words = ws }) (record t { bus = y; words = vs })) (sym there)
-    (subst (λ m. Tells made d e (record u { words = ws }) (record t { bus = m; words = vs })) (sym here)
-    (subst (λ m. Tells made d e (record u { words = m }) (record t { words = vs })) (sym registers)
-    (subst (λ m. Tells made d e u (record t { words = m })) (sym words) tells)))
+    subst (λ m. CellsTell made d e (record u { bus = m; words = ws }) (record t { bus = y; words = vs })) (sym there)
+    (subst (λ m. CellsTell made d e (record u { words = ws }) (record t { bus = m; words = vs })) (sym here)
+    (subst (λ m. CellsTell made d e (record u { words = m }) (record t { words = vs })) (sym registers)
+    (subst (λ m. CellsTell made d e u (record t { words = m })) (sym words) tells)))
 
 -- a stack trap that is pending is no data
 pub words_marking : (marks : Bool) (p : Processor) → (with_stack_trap_if marks p).words ≡ p.words
@@ -66,7 +66,7 @@ words_marking false p = refl
 -- One part of the data changes.
 module _ (d e : Data) where
   pub words_changed : (id : RegisterId) (from : Halves) (ws vs : List ℕ) → WordsTell d e (register_changed id from of_itself) ws vs
-      → Tells (register_changed id from of_itself) d e (record d { words = ws }) (record e { words = vs })
+      → CellsTell (register_changed id from of_itself) d e (record d { words = ws }) (record e { words = vs })
   words_changed id from ws vs tells (CoreByte k half) all = all.0
   words_changed id from ws vs tells (DriveByte n k half) all = all.0
   words_changed id from ws vs tells (RegisterByte n half) all = tells n half all
@@ -79,7 +79,7 @@ module _ (d e : Data) where
   words_changed id from ws vs tells (CodeDue code) all = all.0
   words_changed id from ws vs tells (CodeSaved code) all = all.0
 
-  pub value_is : (from : Halves) (b a : ℕ) → HalvesTell d e from b a → Tells (value_changed from) d e (record d { value = b }) (record e { value = a })
+  pub value_is : (from : Halves) (b a : ℕ) → HalvesTell d e from b a → CellsTell (value_changed from) d e (record d { value = b }) (record e { value = a })
   value_is from b a tells (CoreByte k half) all = all.0
   value_is from b a tells (DriveByte n k half) all = all.0
   value_is from b a tells (RegisterByte n half) all = all.0
@@ -92,7 +92,7 @@ module _ (d e : Data) where
   value_is from b a tells (CodeDue code) all = all.0
   value_is from b a tells (CodeSaved code) all = all.0
 
-  pub source_is : (b a : ℕ) → HalvesTell d e value_halves b a → Tells source_changed d e (record d { source = b }) (record e { source = a })
+  pub source_is : (b a : ℕ) → HalvesTell d e value_halves b a → CellsTell source_changed d e (record d { source = b }) (record e { source = a })
   source_is b a tells (CoreByte k half) all = all.0
   source_is b a tells (DriveByte n k half) all = all.0
   source_is b a tells (RegisterByte n half) all = all.0
@@ -106,7 +106,7 @@ module _ (d e : Data) where
   source_is b a tells (CodeSaved code) all = all.0
 
   pub both_are : (from : Halves) (b a : ℕ) → HalvesTell d e from b a
-      → Tells (both_changed from) d e (record d { value = b; source = b }) (record e { value = a; source = a })
+      → CellsTell (both_changed from) d e (record d { value = b; source = b }) (record e { value = a; source = a })
   both_are from b a tells (CoreByte k half) all = all.0
   both_are from b a tells (DriveByte n k half) all = all.0
   both_are from b a tells (RegisterByte n half) all = all.0
@@ -119,7 +119,7 @@ module _ (d e : Data) where
   both_are from b a tells (CodeDue code) all = all.0
   both_are from b a tells (CodeSaved code) all = all.0
 
-  pub result_is : (from : Halves) (b a : ℕ) → HalvesTell d e from b a → Tells (result_changed from) d e (record d { result = b }) (record e { result = a })
+  pub result_is : (from : Halves) (b a : ℕ) → HalvesTell d e from b a → CellsTell (result_changed from) d e (record d { result = b }) (record e { result = a })
   result_is from b a tells (CoreByte k half) all = all.0
   result_is from b a tells (DriveByte n k half) all = all.0
   result_is from b a tells (RegisterByte n half) all = all.0
@@ -132,7 +132,7 @@ module _ (d e : Data) where
   result_is from b a tells (CodeDue code) all = all.0
   result_is from b a tells (CodeSaved code) all = all.0
 
-  pub status_is : (from : Halves) (b a : ℕ) → HalvesTell d e from b a → Tells (status_changed from) d e (record d { status = b }) (record e { status = a })
+  pub status_is : (from : Halves) (b a : ℕ) → HalvesTell d e from b a → CellsTell (status_changed from) d e (record d { status = b }) (record e { status = a })
   status_is from b a tells (CoreByte k half) all = all.0
   status_is from b a tells (DriveByte n k half) all = all.0
   status_is from b a tells (RegisterByte n half) all = all.0
@@ -157,7 +157,7 @@ module _ (d e : Data) where
   buffer_kept x y Switches all = all.0
 
   pub codes_are : (from : ConditionCode → List DataCell) (x y : Codes) → CodesTell from x y
-      → Tells (codes_changed from) d e (record d { bus = record d.bus { codes = x } }) (record e { bus = record e.bus { codes = y } })
+      → CellsTell (codes_changed from) d e (record d { bus = record d.bus { codes = x } }) (record e { bus = record e.bus { codes = y } })
   codes_are from x y tells (CoreByte k half) all = all.0
   codes_are from x y tells (DriveByte n k half) all = all.0
   codes_are from x y tells (RegisterByte n half) all = all.0
@@ -171,7 +171,7 @@ module _ (d e : Data) where
   codes_are from x y tells (CodeSaved code) all = all.0
 
   pub effect_is : (cells : EffectCells) (b a : ℕ) (x y : Codes) → HalvesTell d e cells.value b a → CodesTell cells.codes x y
-      → Tells (effect_changed cells) d e (record d { result = b; due = Some x }) (record e { result = a; due = Some y })
+      → CellsTell (effect_changed cells) d e (record d { result = b; due = Some x }) (record e { result = a; due = Some y })
   effect_is cells b a x y value codes (CoreByte k half) all = all.0
   effect_is cells b a x y value codes (DriveByte n k half) all = all.0
   effect_is cells b a x y value codes (RegisterByte n half) all = all.0

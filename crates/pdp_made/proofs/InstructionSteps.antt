@@ -34,7 +34,7 @@ use Rattle.pdp_made.specs.Cells.{byte_in, Data, CodeNow, ConditionCode, Negative
 use Rattle.pdp_made.specs.EffectRows.{EffectCells, combination_cells, comparison_cells, mov_cells, modification_cells, replacement_cells, tst_cells, value_halves}
 use Rattle.pdp_made.specs.InstructionRows.{aim_row, clear_codes_row, codes_changed, codes_if_due, codes_outside, effect_row, keep_source_row, link_row, set_codes_row, set_register_row, store_codes_row, subtract_one_row, take_link_row, take_mark_row, take_register_row}
 use Rattle.pdp_made.specs.OperandRows.{keeps_data, register_stepped, value_changed}
-use Rattle.pdp_made.specs.PhaseRows.{IsSoundRow, Tells, TellsEnds, of_itself}
+use Rattle.pdp_made.specs.PhaseRows.{IsSoundRow, CellsTell, TellsEnds, of_itself}
 use Rattle.pdp_made.specs.ReferenceRows.{Halves, cut_to, halves_of, of_nothing, register_changed}
 use Rattle.pdp_made.proofs.EffectSteps.{EffectTells, combination_tells, comparison_tells, mov_tells, modification_tells, replacement_tells, tst_tells}
 use Rattle.pdp_made.proofs.Frames.{CodesTell, both_are, codes_are, effect_is, itself_tells, lost_tells, on_same, result_is, sound_by, source_is, value_is, words_changed, words_marking}
@@ -181,7 +181,7 @@ module _ (saved : Codes) (s : State) (d : Data) (log : KeptCycles) (shape : Same
       (value_is d e of_nothing cell.address cell.address (λ half all. refl))
 
   -- a register is set
-  set_to : (id : RegisterId) (from : Halves) (b a : ℕ) → HalvesTell d e from b a → Tells (register_changed id from of_itself) d e
+  set_to : (id : RegisterId) (from : Halves) (b a : ℕ) → HalvesTell d e from b a → CellsTell (register_changed id from of_itself) d e
       (record d { words = (with_register (processor_with d.words s.world.processor) id b).words }) (record e { words = (with_register s.world.processor id a).words })
   set_to id from b a tells = words_changed d e id from _ _
       (register_set d e from of_itself a b tells s.world.processor (processor_with d.words s.world.processor) id shape.words_size (λ n half all. all.0))

@@ -26,7 +26,7 @@ use Rattle.pdp_operand.specs.declared.processor.RegisterId.TheVariants.{ProgramC
 use Rattle.pdp_made.specs.Cells.{BusData, Data, DataCell, CoreByte, DriveByte, RegisterByte, CodeNow, Buffer, ValueByte, SourceByte, ResultByte, StatusByte, CodeDue, CodeSaved, ConditionCode, SameShape, data_of, data_on, flag_due, processor_with, with_data}
 use Rattle.pdp_made.specs.EffectRows.{going_up}
 use Rattle.pdp_made.specs.OperandRows.{changed_by_write, find_rows, grow_row, halves_of_operand, halves_of_result, keeps_data, lower_row, read_before_write_row, read_row, register_stepped, value_changed, write_row}
-use Rattle.pdp_made.specs.PhaseRows.{AreSoundRows, IsSoundRow, Tells, TellsEnds, of_itself}
+use Rattle.pdp_made.specs.PhaseRows.{AreSoundRows, IsSoundRow, CellsTell, TellsEnds, of_itself}
 use Rattle.pdp_made.specs.ReferenceRows.{Halves, changed_by_reference, changed_if_placed, cut_to, halves_filled, halves_of, place_of_write}
 use Rattle.pdp_made.proofs.Frames.{itself_tells, lost_tells, on_same, sound_by, value_is, words_changed, words_marking}
 use Rattle.pdp_made.proofs.Halves.{HalvesTell, advanced_tells, cut_tells, extended_tells, low_byte_tells, retreated_tells}
@@ -43,7 +43,7 @@ module _ (d e : Data) (p : Processor) (size : length d.words ≡ length e.words)
   here = register_of (processor_with e.words p) id
 
   abbrev set_to : ℕ → ℕ → Type 0
-  set_to b a = Tells (register_stepped id) d e (record d { words = (with_register (processor_with d.words p) id b).words })
+  set_to b a = CellsTell (register_stepped id) d e (record d { words = (with_register (processor_with d.words p) id b).words })
       (record e { words = (with_register (processor_with e.words p) id a).words })
 
   stepped : (b a : ℕ) → HalvesTell d e (going_up (halves_of id)) b a → set_to b a
@@ -101,8 +101,8 @@ module _ (saved : Codes) (s : State) (d : Data) (log : KeptCycles) (shape : Same
   e = data_of saved s
 
   -- at a place of memory, where a stack trap may be pending after the reference
-  marked : (marks : Bool) (made : DataCell → List DataCell) (u t : Data) (x y : BusData) → u.words ≡ d.words → t.words ≡ s.world.processor.words → x ≡ u.bus → y ≡ t.bus → Tells made d e u t
-      → Tells made d e (record u { bus = x; words = (with_stack_trap_if marks (processor_with d.words s.world.processor)).words })
+  marked : (marks : Bool) (made : DataCell → List DataCell) (u t : Data) (x y : BusData) → u.words ≡ d.words → t.words ≡ s.world.processor.words → x ≡ u.bus → y ≡ t.bus → CellsTell made d e u t
+      → CellsTell made d e (record u { bus = x; words = (with_stack_trap_if marks (processor_with d.words s.world.processor)).words })
       (record t { bus = y; words = (with_stack_trap_if marks s.world.processor).words })
   marked marks made u t x y there here other same tells = on_same made d e u t x y _ _ other same
       (words_marking marks (processor_with d.words s.world.processor) ∙ sym there) (words_marking marks s.world.processor ∙ sym here) tells
@@ -114,7 +114,7 @@ module _ (saved : Codes) (s : State) (d : Data) (log : KeptCycles) (shape : Same
       (λ there after b a other same tells. marked cell.yellow of_itself d e (data_on there) (data_on after) refl refl other same (itself_tells d e))
 
   -- an operand in a register
-  from_register : (size : Size) (id : RegisterId) → Tells (value_changed (cut_to size (halves_of id))) d e
+  from_register : (size : Size) (id : RegisterId) → CellsTell (value_changed (cut_to size (halves_of id))) d e
       (record d { value = register_of (processor_with d.words s.world.processor) id % span size }) (record e { value = register_of s.world.processor id % span size })
   from_register size id = value_is d e (cut_to size (halves_of id)) _ _ (cut_tells d e size (halves_of id) _ _ (register_tells d e s.world.processor id))
 
@@ -149,7 +149,7 @@ DueTells d e x y = (code : ConditionCode) → flag_due code d.due ≡ flag_due c
 
 module _ (d e : Data) (size : Size) (mode : Mode) (address : ℕ) (b : BusWorld) (from : Halves) (x y : BusData) (tells : BusTells d e (λ c. changed_if_placed size b (place_of_write mode address b) from c) x y)
     (due left : Option Codes) (due_tells : DueTells d e due left) where
-  pub bus_changed : Tells (changed_by_reference size mode address b from) d e (record d { bus = x; due = due }) (record e { bus = y; due = left })
+  pub bus_changed : CellsTell (changed_by_reference size mode address b from) d e (record d { bus = x; due = due }) (record e { bus = y; due = left })
   bus_changed (CoreByte k half) all = tells.core k half all
   bus_changed (DriveByte n k half) all = tells.drives n k half all
   bus_changed (RegisterByte n half) all = all.0
@@ -179,7 +179,7 @@ module _ (saved : Codes) (s : State) (d : Data) (log : KeptCycles) (shape : Same
 
   module _ (how : Fill) (cell : places.Cell) (size : Size) where
     resumed : (there after : BusWorld) (at : ℕ) → BusTells d (e saved s d log shape) (bus_made (write_operand how) of_itself saved (placed (Mem cell) s) d log shape halves_of_result size cell.mode cell.address s.latch.result d.result result_there) (data_on there) (data_on after)
-        → Tells (changed_by_reference size cell.mode cell.address s.world.bus halves_of_result) d (e saved s d log shape)
+        → CellsTell (changed_by_reference size cell.mode cell.address s.world.bus halves_of_result) d (e saved s d log shape)
         (there_after (write_operand how) of_itself saved (placed (Mem cell) s) d log shape there at) (here_after (write_operand how) of_itself saved (placed (Mem cell) s) d log shape after at)
     unfolding write_operand
     resumed there after at tells = marked saved s d log shape cell.yellow (changed_by_reference size cell.mode cell.address s.world.bus halves_of_result)

@@ -9,7 +9,7 @@ use Rattle.pdp_action.specs.declared.trap.Trap.{Trap}
 use Rattle.pdp_operand.specs.Handbook.Reference.{perform}
 use Rattle.pdp_operand.specs.Phases.Phase.{Phase, State, after_answer, after_reply, inner_of, state_of, with_inner}
 use Rattle.pdp_made.specs.Cells.{Data, DataCell, SameShape, bus_with, data_of, data_on, latch_with_data, processor_with, with_data}
-use Rattle.pdp_made.specs.PhaseRows.{Tells, TellsEnds, of_itself}
+use Rattle.pdp_made.specs.PhaseRows.{CellsTell, TellsEnds, of_itself}
 use Rattle.pdp_made.specs.ReferenceRows.{Halves, changed_if_placed, halves_referred, place_of_write}
 use Rattle.pdp_made.proofs.Frames.{lost, lost_tells, on_same}
 use Rattle.pdp_made.proofs.Halves.{HalvesTell}
@@ -33,7 +33,7 @@ module _ (p : Phase) (made : DataCell → List DataCell) (saved : Codes) (s : St
 
   -- both failed
   failed : (there after : BusWorld) → data_on there ≡ d.bus → data_on after ≡ data_on s.world.bus
-      → Tells of_itself d (data_of saved s) (record (lost d) { bus = data_on there }) (record (lost (data_of saved s)) { bus = data_on after })
+      → CellsTell of_itself d (data_of saved s) (record (lost d) { bus = data_on there }) (record (lost (data_of saved s)) { bus = data_on after })
   failed there after there_same here_same =
       on_same of_itself d (data_of saved s) (lost d) (lost (data_of saved s)) (data_on there) (data_on after) d.words s.world.processor.words there_same here_same refl refl
       (lost_tells d (data_of saved s))
@@ -41,7 +41,7 @@ module _ (p : Phase) (made : DataCell → List DataCell) (saved : Codes) (s : St
   module _ (size : Size) (mode : Mode) (address : ℕ)
       (resumed : (there after : BusWorld) (b a : ℕ) → data_on there ≡ d.bus → data_on after ≡ data_on s.world.bus
       → HalvesTell d (data_of saved s) (halves_referred size mode address s.world.bus) b a
-      → Tells made d (data_of saved s) (there_after there b) (here_after after a)) where
+      → CellsTell made d (data_of saved s) (there_after there b) (here_after after a)) where
     answered : (there after : BusWorld) (other value : Result ℕ Trap) → data_on there ≡ d.bus → data_on after ≡ data_on s.world.bus
         → ValuesTell d (data_of saved s) (halves_referred size mode address s.world.bus) other value
         → TellsEnds made of_itself saved d.saved d (data_of saved s) (after_answer p (here_with after) value) (after_answer p (there_with there) other)
@@ -62,12 +62,12 @@ module _ (p : Phase) (made : DataCell → List DataCell) (saved : Codes) (s : St
     bus_made c = changed_if_placed size s.world.bus (place_of_write mode address s.world.bus) from c
 
     module _ (resumed : (there after : BusWorld) (at : ℕ) → BusTells d (data_of saved s) bus_made (data_on there) (data_on after)
-        → Tells made d (data_of saved s) (there_after there at) (here_after after at)) where
+        → CellsTell made d (data_of saved s) (there_after there at) (here_after after at)) where
       written : (there after : BusWorld) (other_value value : Result ℕ Trap)
           → RepliesTell d log s.world.bus (data_of saved s) bus_made other_value value there after
           → TellsEnds made of_itself saved d.saved d (data_of saved s) (after_answer p (here_with after) value) (after_answer p (there_with there) other_value)
       written there after (Ok b) (Ok a) tells =
-          subst (λ at. Tells made d (data_of saved s) (there_after there at) (here_after after a)) (sym tells.same_place) (resumed there after a tells.tells)
+          subst (λ at. CellsTell made d (data_of saved s) (there_after there at) (here_after after a)) (sym tells.same_place) (resumed there after a tells.tells)
       written there after (Ok b) (Err trap) tells = tt
       written there after (Err trap) (Ok a) tells = tt
       written there after (Err trap) (Err left) tells = failed there after tells.there_kept tells.here_kept

@@ -3,15 +3,15 @@ use Rattle.std.proofs.Common.{List, [], ◌∷◌, flat_map, Result, Ok, Err}
 use Rattle.pdp_word.specs.declared.codes.Codes.{Codes}
 use Rattle.pdp_operand.specs.Phases.Phase.{State, Stop, run, step, and_then}
 use Rattle.pdp_made.specs.Cells.{AreAlike, Data, DataCell, EachSame, data_of}
-use Rattle.pdp_made.specs.PhaseRows.{BothEndAlike, GoTheSameWay, PhaseRow, PlansTell, Tells, TellsEnds, made_next, made_through, of_itself, phases_in}
+use Rattle.pdp_made.specs.PhaseRows.{BothEndAlike, GoTheSameWay, PhaseRow, PlansTell, CellsTell, TellsEnds, made_next, made_through, of_itself, phases_in}
 use Rattle.pdp_made.proofs.Halves.{each_back, each_front}
 
-pub each_of : (first : DataCell → List DataCell) (d e u t : Data) → Tells first d e u t → (xs : List DataCell) → EachSame d e (flat_map first xs) → EachSame u t xs
+pub each_of : (first : DataCell → List DataCell) (d e u t : Data) → CellsTell first d e u t → (xs : List DataCell) → EachSame d e (flat_map first xs) → EachSame u t xs
 each_of first d e u t tells [] all = tt
 each_of first d e u t tells (x ∷ xs) all =
     (tells x (each_front d e (first x) (flat_map first xs) all), each_of first d e u t tells xs (each_back d e (first x) (flat_map first xs) all))
 
-module _ (first rest : DataCell → List DataCell) (d e u t : Data) (tells : Tells first d e u t) (saved other : Codes) where
+module _ (first rest : DataCell → List DataCell) (d e u t : Data) (tells : CellsTell first d e u t) (saved other : Codes) where
   both : (one end : Result State Stop) → TellsEnds rest rest saved other u t one end
       → TellsEnds (λ c. flat_map first (rest c)) (λ c. flat_map first (rest c)) saved other d e one end
   both (Ok one) (Ok end) after = λ c all. after c (each_of first d e u t tells (rest c) all)

@@ -20,7 +20,7 @@ use Rattle.pdp_instruction.specs.Handbook.TrapSequence.{bare_stack, enter, enter
 use Rattle.pdp_instruction.specs.declared.saved_context.SavedContext.{SavedContext}
 use Rattle.pdp_made.specs.Cells.{byte_in, BusData, Data, CoreByte, DriveByte, RegisterByte, CodeNow, Buffer, ValueByte, SourceByte, ResultByte, StatusByte, CodeDue, CodeSaved, DeviceBuffer, Keyboard, Printer, Reader, Punch, Switches, EachSame, Half, Low, SameShape, data_of, data_on, flag_in, held_in, processor_with, with_data}
 use Rattle.pdp_made.specs.OperandRows.{keeps_data, lower_row}
-use Rattle.pdp_made.specs.PhaseRows.{AreSoundRows, IsSoundRow, Tells, TellsEnds, of_itself}
+use Rattle.pdp_made.specs.PhaseRows.{AreSoundRows, IsSoundRow, CellsTell, TellsEnds, of_itself}
 use Rattle.pdp_made.specs.ReferenceRows.{Halves, changed_by_reference, changed_if_placed, place_of_write, each_code, halves_referred, of_nothing, register_changed}
 use Rattle.pdp_made.specs.TrapRows.{bare_stack_row, enter_red_row, enter_row, give_up_row, halves_saved, of_new_status, put_at, put_word_row, red_rows, save_row, saved_counter, saved_status, status_changed, trap_rows, vector_status_row}
 use Rattle.pdp_made.proofs.Frames.{CodesTell, codes_are, itself_tells, on_same, sound_by, status_is, words_changed, words_marking}
@@ -68,7 +68,7 @@ module _ (word : Codes → ℕ) (from : Halves) (tells : WordTells word from) (s
 
   -- what a write changes, and no due codes
   wrote : (size : Size) (mode : Mode) (address : ℕ) (x y : BusData) → BusTells d e (λ c. changed_if_placed size s.world.bus (place_of_write mode address s.world.bus) from c) x y
-      → Tells (changed_by_reference size mode address s.world.bus from) d e (record d { bus = x }) (record e { bus = y })
+      → CellsTell (changed_by_reference size mode address s.world.bus from) d e (record d { bus = x }) (record e { bus = y })
   wrote size mode address x y bus = bus_changed d e size mode address s.world.bus from x y bus d.due e.due (λ code same. same)
 
   put_word_at : (marks : Bool) (place : Place) → TellsEnds (put_at from place s) of_itself saved d.saved d e (step (put_word marks (word saved)) (placed place s)) (step (put_word marks (word d.saved)) (with_data d log (placed place s)))
@@ -124,7 +124,7 @@ module _ (d e : Data) where
   new_buffer x y Switches all = all.0
 
   red_entered : (x y : Codes) (ws vs : List ℕ) → CodesTell d e (λ code. StatusByte Low ∷ []) x y → WordsTell d e (register_changed KernelStack of_nothing of_new_status) ws vs
-      → Tells (register_changed KernelStack of_nothing of_new_status) d e (record d { bus = record d.bus { codes = x }; words = ws }) (record e { bus = record e.bus { codes = y }; words = vs })
+      → CellsTell (register_changed KernelStack of_nothing of_new_status) d e (record d { bus = record d.bus { codes = x }; words = ws }) (record e { bus = record e.bus { codes = y }; words = vs })
   red_entered x y ws vs codes words (CoreByte k half) all = all.0
   red_entered x y ws vs codes words (DriveByte n k half) all = all.0
   red_entered x y ws vs codes words (RegisterByte n half) all = words n half all

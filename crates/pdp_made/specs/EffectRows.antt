@@ -69,35 +69,35 @@ made_codes signs overflow carry Carry = carry
 abbrev pub value_made : Size → (Halves → Halves) → Halves → Halves
 value_made size way from = cut_to size (way (cut_to size from))
 
-abbrev pub operands_of : Size → Halves → List DataCell
-operands_of size from = whole_of (cut_to size from)
+abbrev pub cells_of_operands : Size → Halves → List DataCell
+cells_of_operands size from = whole_of (cut_to size from)
 
 -- all codes are made of the operands
 abbrev pub sets_codes : Size → (Halves → Halves) → Halves → EffectCells
 sets_codes size way from = record {
   value = value_made size way from;
-  codes = made_codes (operands_of size from) (operands_of size from) (operands_of size from);
+  codes = made_codes (cells_of_operands size from) (cells_of_operands size from) (cells_of_operands size from);
 }
 
 -- C is kept
 abbrev pub keeps_carry : Size → (Halves → Halves) → Halves → EffectCells
 keeps_carry size way from = record {
   value = value_made size way from;
-  codes = made_codes (operands_of size from) (operands_of size from) carry_now;
+  codes = made_codes (cells_of_operands size from) (cells_of_operands size from) carry_now;
 }
 
 -- C is kept, and V is 0
 abbrev pub clears_overflow : Size → (Halves → Halves) → Halves → EffectCells
 clears_overflow size way from = record {
   value = value_made size way from;
-  codes = made_codes (operands_of size from) [] carry_now;
+  codes = made_codes (cells_of_operands size from) [] carry_now;
 }
 
 -- V is 0, and C is always the same
 abbrev pub sets_signs : Size → (Halves → Halves) → Halves → EffectCells
 sets_signs size way from = record {
   value = value_made size way from;
-  codes = made_codes (operands_of size from) [] [];
+  codes = made_codes (cells_of_operands size from) [] [];
 }
 
 -- MOV [4.1], TST [4.16]

@@ -19,17 +19,17 @@ of_itself c = c ∷ []
 
 -- from data d and e to data u and t: a cell is the same after if the cells that it is made of are
 -- the same before
-abbrev pub Tells : (DataCell → List DataCell) → Data → Data → Data → Data → Type 0
-Tells made d e u t = (c : DataCell) → EachSame d e (made c) → Same u t c
+abbrev pub CellsTell : (DataCell → List DataCell) → Data → Data → Data → Data → Type 0
+CellsTell made d e u t = (c : DataCell) → EachSame d e (made c) → Same u t c
 
 -- The same of how phases end: by `made` if both go on, by `stops` if both come to a trap. If they
 -- don't end alike it says nothing.
 abbrev pub TellsEnds : (DataCell → List DataCell) → (DataCell → List DataCell) → Codes → Codes
     → Data → Data → Result State Stop → Result State Stop → Type 0
 TellsEnds made stops saved other d e (Ok t) (Ok v) =
-    Tells made d e (data_of other v) (data_of saved t)
+    CellsTell made d e (data_of other v) (data_of saved t)
 TellsEnds made stops saved other d e (Err stop) (Err end) =
-    Tells stops d e (data_at other end.world) (data_at saved stop.world)
+    CellsTell stops d e (data_at other end.world) (data_at saved stop.world)
 TellsEnds made stops saved other d e (Ok t) (Err end) = Unit {0}
 TellsEnds made stops saved other d e (Err stop) (Ok v) = Unit {0}
 
