@@ -8,9 +8,10 @@ use Rattle.pdp_word.specs.declared.size.Size.TheVariants.{Word}
 use Rattle.pdp_alu.specs.ArithmeticShifts.{ash_effect, ashc_effect, shifted_left, shifted_right, shifting_from}
 use Rattle.pdp_alu.specs.Division.{div_effect}
 use Rattle.pdp_alu.specs.Effect.{effect}
-use Rattle.pdp_alu.specs.Long.{high_word, join_words, low_word}
+use Rattle.pdp_alu.specs.Long.{high_word, join_words, long_effect, low_word}
 use Rattle.pdp_alu.specs.Multiplication.{mul_effect}
 use Rattle.pdp_alu.specs.declared.effect.Effect.{Effect}
+use Rattle.pdp_alu.specs.declared.long.LongEffect.{LongEffect}
 use Rattle.pdp_alu.specs.declared.quotient.Div.{Div}
 use Rattle.pdp_alu.specs.declared.quotient.Div.TheVariants.{Done, Kept}
 use Rattle.pdp_store.specs.CycleLogs.{KeptCycles}
@@ -29,7 +30,7 @@ use Rattle.pdp_instruction.specs.Handbook.ReturnFromTrap.{keep_counter, return_f
 use Rattle.pdp_instruction.specs.declared.pair.Pair.{Pair}
 use Rattle.pdp_made.specs.Cells.{byte_in, Data, DataCell, CoreByte, DriveByte, RegisterByte, CodeNow, Buffer, ValueByte, SourceByte, ResultByte, StatusByte, CodeDue, CodeSaved, EachSame, Low, SameShape, data_of, flag_in, processor_with, with_data}
 use Rattle.pdp_made.specs.EffectRows.{value_halves}
-use Rattle.pdp_made.specs.InstructionRows.{divide_row, due_changed, multiply_row, pair_cells, pair_changed, return_from_trap_row, shift_cells, shift_pair_row, shift_row, with_operand_cells}
+use Rattle.pdp_made.specs.InstructionRows.{divide_row, due_changed, multiply_row, pair_cells, pair_changed, return_from_trap_row, shift_cells, shift_pair_cells, shift_pair_row, shift_row, with_operand_cells}
 use Rattle.pdp_made.specs.OperandRows.{keeps_data}
 use Rattle.pdp_made.specs.PhaseRows.{IsSoundRow, CellsTell, of_itself}
 use Rattle.pdp_made.specs.ReferenceRows.{halves_of, of_each, register_changed, whole_of}
@@ -197,16 +198,7 @@ divides r = sound_by _ (λ saved s d log shape.
     let pair : Pair = named_pair (inner_of s) r in
     due_is d (data_of saved s) pair (pair_cells pair) _ _ (λ all. ap codes_of (div_same saved s d shape pair all)) _ _ (quotient_tells saved s d shape pair))
 
-pub shifts_pair : (r : ℕ) → IsSoundRow (shift_pair_row r)
-unfolding shift_pair
-shifts_pair r = sound_by _ (λ saved s d log shape.
-    let pair : Pair = named_pair (inner_of s) r in
-    due_is d (data_of saved s) pair (pair_cells pair) _ _ (λ all. ap₂ (λ long value. (ashc_effect long value).codes) (long_same saved s d shape pair all) (pair_value saved s d shape pair all)) _ _
-    (pair_set d (data_of saved s) pair (pair_cells pair) s.world.processor (processor_with d.words s.world.processor) _ _ _ _ shape.words_size (λ n half all. all.0)
-    (λ all. ap₂ (λ long value. high_word (ashc_effect long value).value) (long_same saved s d shape pair all) (pair_value saved s d shape pair all))
-    (λ all. ap₂ (λ long value. low_word (ashc_effect long value).value) (long_same saved s d shape pair all) (pair_value saved s d shape pair all))))
-
--- ASH: the count is in the low half of the operand
+-- ASH and ASHC: the count is in the low half of the operand
 abbrev shifted_with : ℕ → ℕ → ℕ → Effect
 shifted_with sign word count =
     let shifting = (if nat_lt count 32 then iterate (shifted_left sign) count (shifting_from word) else iterate (shifted_right sign) (64 - count) (shifting_from word)) in
@@ -221,6 +213,36 @@ count_same a b same = omega (arith, same)
 
 ash_same : (a b x y : ℕ) → a ≡ b → x % 256 ≡ y % 256 → ash_effect a x ≡ ash_effect b y
 ash_same a b x y word source = ash_is a x ∙ ap₂ (λ w count. shifted_with 32768 w count) word (count_same x y source) ∙ sym (ash_is b y)
+
+abbrev long_shifted_with : ℕ → ℕ → LongEffect
+long_shifted_with long count =
+    let shifting = (if nat_lt count 32 then iterate (shifted_left 2147483648) count (shifting_from long) else iterate (shifted_right 2147483648) (64 - count) (shifting_from long)) in
+    long_effect shifting.number shifting.sign_changed shifting.out
+
+ashc_is : (long source : ℕ) → ashc_effect long source ≡ long_shifted_with long (source % 64)
+unfolding ashc_effect
+ashc_is long source = refl
+
+ashc_same : (a b x y : ℕ) → a ≡ b → x % 256 ≡ y % 256 → ashc_effect a x ≡ ashc_effect b y
+ashc_same a b x y long source = ashc_is a x ∙ ap₂ (λ number count. long_shifted_with number count) long (count_same x y source) ∙ sym (ashc_is b y)
+
+pub shifts_pair : (r : ℕ) → IsSoundRow (shift_pair_row r)
+unfolding shift_pair
+shifts_pair r = sound_by _ (λ saved s d log shape.
+    let pair : Pair = named_pair (inner_of s) r in
+    let from : List DataCell = shift_pair_cells pair in
+    let high : (EachSame d (data_of saved s) from → EachSame d (data_of saved s) (whole_of (halves_of pair.high))) =
+        λ all. each_front d (data_of saved s) (whole_of (halves_of pair.high)) (shift_cells pair.low) all in
+    let low : (EachSame d (data_of saved s) from → EachSame d (data_of saved s) (shift_cells pair.low)) =
+        λ all. each_back d (data_of saved s) (whole_of (halves_of pair.high)) (shift_cells pair.low) all in
+    let same : (EachSame d (data_of saved s) from → ashc_effect (long_in (processor_with d.words s.world.processor) pair) d.value ≡ ashc_effect (long_in s.world.processor pair) s.latch.value) =
+        λ all. ashc_same _ _ d.value s.latch.value
+        (ap₂ (λ first second. join_words first second) (register_is saved s d shape pair.high (high all))
+        (register_is saved s d shape pair.low (each_front d (data_of saved s) (whole_of (halves_of pair.low)) (ValueByte Low ∷ []) (low all))))
+        (each_back d (data_of saved s) (whole_of (halves_of pair.low)) (ValueByte Low ∷ []) (low all)).0 in
+    due_is d (data_of saved s) pair from _ _ (λ all. ap (λ effect. effect.codes) (same all)) _ _
+    (pair_set d (data_of saved s) pair from s.world.processor (processor_with d.words s.world.processor) _ _ _ _ shape.words_size (λ n half all. all.0)
+    (λ all. ap (λ effect. high_word effect.value) (same all)) (λ all. ap (λ effect. low_word effect.value) (same all))))
 
 module _ (d e : Data) (id : RegisterId) (from : List DataCell) where
   abbrev one_made : DataCell → List DataCell

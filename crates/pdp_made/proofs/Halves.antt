@@ -1,14 +1,19 @@
 -- Words whose halves are the same: what is done to both.
-use Rattle.std.proofs.Common.{◌≡◌, ℕ, ◌+◌, ◌-◌, ◌*◌, ◌/◌, ◌%◌, ◌<◌, ◌==◌, Bool, true, false, List, [], ◌∷◌, ◌++◌, refl, ap, arith, nat_lt, if◌then◌else◌}
+use Rattle.std.proofs.Common.{◌≡◌, ℕ, ◌+◌, ◌-◌, ◌*◌, ◌/◌, ◌%◌, ◌<◌, ◌==◌, Bool, true, false, List, [], ◌∷◌, ◌++◌, refl, ap, sym, ◌∙◌, ◌≤◌, arith, nat_lt, if◌then◌else◌}
 use Rattle.pdp_word.specs.Size.{span}
 use Rattle.pdp_word.specs.Word.{less, sign_extended}
 use Rattle.pdp_word.specs.declared.size.Size.{Size}
 use Rattle.pdp_word.specs.declared.size.Size.TheVariants.{Word, Byte}
 use Rattle.pdp_word.specs.declared.codes.Codes.{Codes}
-use Rattle.pdp_io_page.specs.Handbook.Status.{status_codes}
+use Rattle.pdp_kt11.specs.Handbook.Mode.{mode_bits}
+use Rattle.pdp_word.specs.Bits.{bit_of}
+use Rattle.pdp_io_page.specs.Handbook.Status.{priority_bits, status_codes, status_word}
+use Rattle.pdp_io_page.specs.declared.priority.Priority.{Priority}
+use Rattle.pdp_io_page.specs.declared.priority.Priority.TheVariants.{Level0, Level1, Level2, Level3, Level4, Level5, Level6, Level7}
+use Rattle.pdp_io_page.specs.declared.status.Status.{Status}
 use Rattle.pdp_made.specs.Cells.{Half, Low, High, byte_in, Data, DataCell, EachSame, ConditionCode, Negative, Zero, Overflow, Carry, flag_in}
 use Rattle.pdp_made.specs.EffectRows.{going_up}
-use Rattle.pdp_made.specs.ReferenceRows.{Halves, cut_to, of_each, with_low_byte, with_high_byte, extended_byte, whole_of}
+use Rattle.pdp_made.specs.ReferenceRows.{Halves, cut_to, each_code, halves_of_codes, of_each, with_low_byte, with_high_byte, extended_byte, whole_of}
 
 -- two words with the same halves are the same
 from_halves : (a b : ℕ) → a % 256 ≡ b % 256 → a / 256 ≡ b / 256 → a ≡ b
@@ -126,6 +131,34 @@ codes_tell Carry a b same = ap (λ bit. bit == 1) (bit_of_low a b same)
   where
     bit_of_low : (a b : ℕ) → a % 256 ≡ b % 256 → a / 1 % 2 ≡ b / 1 % 2
     bit_of_low a b same = omega (arith, same)
+
+-- the codes of the program status word are in its lower half alone
+bit_small : (b : Bool) → bit_of b ≤ 1
+bit_small true = omega arith
+bit_small false = omega arith
+
+priority_small : (p : Priority) → priority_bits p ≤ 7
+priority_small Level0 = omega arith
+priority_small Level1 = omega arith
+priority_small Level2 = omega arith
+priority_small Level3 = omega arith
+priority_small Level4 = omega arith
+priority_small Level5 = omega arith
+priority_small Level6 = omega arith
+priority_small Level7 = omega arith
+
+high_of_sum : (m p q t n z v c : ℕ) → q ≤ 7 → t ≤ 1 → n ≤ 1 → z ≤ 1 → v ≤ 1 → c ≤ 1
+    → (m * 16384 + p * 4096 + q * 32 + t * 16 + n * 8 + z * 4 + v * 2 + c) / 256 ≡ m * 64 + p * 16
+high_of_sum m p q t n z v c level trace negative zero overflow carry = omega (arith, level, trace, negative, zero, overflow, carry)
+
+high_of_status : (s : Status) → status_word s / 256 ≡ mode_bits s.mode * 64 + mode_bits s.previous * 16
+high_of_status s = high_of_sum (mode_bits s.mode) (mode_bits s.previous) (priority_bits s.priority) (bit_of s.trace_bit) (bit_of s.codes.n) (bit_of s.codes.z) (bit_of s.codes.v) (bit_of s.codes.c)
+    (priority_small s.priority) (bit_small s.trace_bit) (bit_small s.codes.n) (bit_small s.codes.z) (bit_small s.codes.v) (bit_small s.codes.c)
+
+pub status_tells : (d e : Data) (cell : ConditionCode → DataCell) (s : Status) (x y : Codes) → (EachSame d e (each_code cell) → x ≡ y)
+    → HalvesTell d e (halves_of_codes cell) (status_word (record s { codes = x })) (status_word (record s { codes = y }))
+status_tells d e cell s x y same Low all = ap (λ codes. status_word (record s { codes = codes }) % 256) (same all)
+status_tells d e cell s x y same High all = high_of_status (record s { codes = x }) ∙ sym (high_of_status (record s { codes = y }))
 
 -- codes that are the same one by one
 pub codes_same : (x y : Codes) → x.n ≡ y.n → x.z ≡ y.z → x.v ≡ y.v → x.c ≡ y.c → x ≡ y

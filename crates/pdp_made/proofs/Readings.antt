@@ -19,9 +19,9 @@ use Rattle.pdp_action.specs.declared.trap.Trap.{Trap}
 use Rattle.pdp_operand.specs.Handbook.Operand.{reading}
 use Rattle.pdp_operand.specs.Handbook.Reference.{Reference, half_at, is_odd, perform, reference_to, translation}
 use Rattle.pdp_operand.proofs.Shape.{reply_by, shape_at, shape_by, shape_if, shape_of, perform_is}
-use Rattle.pdp_made.specs.Cells.{Half, Low, High, byte_in, Data, EachSame, bus_with, data_on, io_page_with}
-use Rattle.pdp_made.specs.ReferenceRows.{Halves, cells_of_device, halves_at, halves_if_placed, halves_read, halves_referred}
-use Rattle.pdp_made.proofs.Halves.{HalvesTell, codes_same}
+use Rattle.pdp_made.specs.Cells.{Half, Low, High, byte_in, Data, CodeNow, EachSame, bus_with, data_on, io_page_with}
+use Rattle.pdp_made.specs.ReferenceRows.{Halves, half_of_address, halves_at, halves_if_placed, halves_of_device, halves_read, halves_referred}
+use Rattle.pdp_made.proofs.Halves.{HalvesTell, codes_same, status_tells}
 
 -- A read leaves all data.
 abbrev page_of : Kt → BusWorld → IoPage
@@ -85,23 +85,23 @@ half_if true half a b same = ap (byte_in half) same
 half_if false half a b same = ap (byte_in half) same
 
 -- what a register of the bus holds: with other data d, and with those of e
-pub device_tells : (d e : Data) (r : Register) (drives : ℕ) (page : IoPage) → EachSame d e (cells_of_device r)
-    → value_in r drives (io_page_with d.bus page) ≡ value_in r drives (io_page_with e.bus page)
+pub device_tells : (d e : Data) (r : Register) (drives : ℕ) (page : IoPage)
+    → HalvesTell d e (halves_of_device r) (value_in r drives (io_page_with d.bus page)) (value_in r drives (io_page_with e.bus page))
 unfolding value_in
-device_tells d e (register.Console KeyboardStatus) drives page all = refl
-device_tells d e (register.Console KeyboardBuffer) drives page all = all.0
-device_tells d e (register.Console PrinterStatus) drives page all = refl
-device_tells d e (register.Console PrinterBuffer) drives page all = refl
-device_tells d e register.Clock drives page all = refl
-device_tells d e (register.PaperTape ReaderStatus) drives page all = refl
-device_tells d e (register.PaperTape ReaderBuffer) drives page all = all.0
-device_tells d e (register.PaperTape PunchStatus) drives page all = refl
-device_tells d e (register.PaperTape PunchBuffer) drives page all = refl
-device_tells d e (register.Disk k) drives page all = refl
-device_tells d e register.Switches drives page all = all.0
-device_tells d e (register.Mapping k) drives page all = refl
-device_tells d e register.ProgramStatus drives page all =
-    ap (λ codes. status_word (record page.status { codes = codes })) (codes_same d.bus.codes e.bus.codes all.0 all.1.0 all.1.1.0 all.1.1.1.0)
+device_tells d e (register.Console KeyboardStatus) drives page = λ half all. refl
+device_tells d e (register.Console KeyboardBuffer) drives page = λ half all. ap (byte_in half) all.0
+device_tells d e (register.Console PrinterStatus) drives page = λ half all. refl
+device_tells d e (register.Console PrinterBuffer) drives page = λ half all. refl
+device_tells d e register.Clock drives page = λ half all. refl
+device_tells d e (register.PaperTape ReaderStatus) drives page = λ half all. refl
+device_tells d e (register.PaperTape ReaderBuffer) drives page = λ half all. ap (byte_in half) all.0
+device_tells d e (register.PaperTape PunchStatus) drives page = λ half all. refl
+device_tells d e (register.PaperTape PunchBuffer) drives page = λ half all. refl
+device_tells d e (register.Disk k) drives page = λ half all. refl
+device_tells d e register.Switches drives page = λ half all. ap (byte_in half) all.0
+device_tells d e (register.Mapping k) drives page = λ half all. refl
+device_tells d e register.ProgramStatus drives page =
+    status_tells d e CodeNow page.status d.bus.codes e.bus.codes (λ all. codes_same d.bus.codes e.bus.codes all.0 all.1.0 all.1.1.0 all.1.1.1.0)
 
 module _ (d : Data) (log : KeptCycles) (b : BusWorld) (others : Data) where
   -- the data of this bus
@@ -113,12 +113,12 @@ module _ (d : Data) (log : KeptCycles) (b : BusWorld) (others : Data) where
       (reply_by (shape_at (reading size) physical turn drives (page_of mapping (bus_with d.bus log b)) slave) (bus_with d.bus log b)).value
       (reply_by (shape_at (reading size) physical turn drives (page_of mapping b) slave) b).value
   value_by_slave Word physical turn drives mapping (Core k) = λ half all. all.0
-  value_by_slave Word physical turn drives mapping (Device r) = λ half all. ap (byte_in half) (device_tells d here r drives (page_of mapping b) all)
+  value_by_slave Word physical turn drives mapping (Device r) = device_tells d here r drives (page_of mapping b)
   value_by_slave Word physical turn drives mapping Nobody = tt
   value_by_slave Byte physical turn drives mapping (Core k) =
       λ half all. half_if (physical % 2 == 0) half (slice_index b.core k) (slice_index d.bus.core k) all.0
   value_by_slave Byte physical turn drives mapping (Device r) =
-      λ half all. ap (λ w. byte_in half (half_at physical w)) (device_tells d here r drives (page_of mapping b) all)
+      λ half all. half_if (physical % 2 == 0) half _ _ (device_tells d here r drives (page_of mapping b) (half_of_address physical) all)
   value_by_slave Byte physical turn drives mapping Nobody = tt
 
   value_by_place : (size : Size) (turn drives : ℕ) (mapping : Kt) (place : Result ℕ Abort)

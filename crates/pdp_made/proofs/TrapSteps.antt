@@ -24,7 +24,7 @@ use Rattle.pdp_made.specs.PhaseRows.{AreSoundRows, IsSoundRow, CellsTell, TellsE
 use Rattle.pdp_made.specs.ReferenceRows.{Halves, changed_by_reference, changed_if_placed, place_of_write, each_code, halves_referred, of_nothing, register_changed}
 use Rattle.pdp_made.specs.TrapRows.{bare_stack_row, enter_red_row, enter_row, give_up_row, halves_saved, of_new_status, put_at, put_word_row, red_rows, save_row, saved_counter, saved_status, status_changed, trap_rows, vector_status_row}
 use Rattle.pdp_made.proofs.Frames.{CodesTell, codes_are, itself_tells, on_same, sound_by, status_is, words_changed, words_marking}
-use Rattle.pdp_made.proofs.Halves.{HalvesTell, codes_same, codes_tell, each_tells}
+use Rattle.pdp_made.proofs.Halves.{HalvesTell, codes_same, codes_tell, status_tells}
 use Rattle.pdp_made.proofs.OperandSteps.{bus_changed, lowers, placed}
 use Rattle.pdp_made.proofs.References.{read_step, write_step}
 use Rattle.pdp_made.proofs.Registers.{WordsTell, register_set}
@@ -57,7 +57,7 @@ abbrev WordTells : (Codes → ℕ) → Halves → Type 0
 WordTells word from = (d e : Data) → HalvesTell d e from (word d.saved) (word e.saved)
 
 status_saved : (context : SavedContext) → WordTells (saved_status context) halves_saved
-status_saved context d e = each_tells d e (each_code CodeSaved) _ _ (λ all. ap (λ codes. saved_status context codes) (codes_same d.saved e.saved all.0 all.1.0 all.1.1.0 all.1.1.1.0))
+status_saved context d e = status_tells d e CodeSaved context.status d.saved e.saved (λ all. codes_same d.saved e.saved all.0 all.1.0 all.1.1.0 all.1.1.1.0)
 
 counter_saved : (context : SavedContext) → WordTells (saved_counter context) of_nothing
 counter_saved context d e half all = refl

@@ -23,7 +23,7 @@ use Rattle.pdp_action.specs.declared.trap.Trap.{Trap}
 use Rattle.pdp_operand.specs.Handbook.Reference.{Kind, WriteWord, WriteByte, Reference, is_odd, perform, reference_to, translation}
 use Rattle.pdp_operand.proofs.Shape.{reply_by, shape_at, shape_by, shape_if, shape_of, perform_is}
 use Rattle.pdp_made.specs.Cells.{Half, Low, High, byte_in, BusData, ConditionCode, flag_in, Data, DataCell, CoreByte, DriveByte, CodeNow, Buffer, DeviceBuffer, Keyboard, Printer, Reader, Punch, Switches, held_in, EachSame, bus_with, data_on}
-use Rattle.pdp_made.specs.ReferenceRows.{Halves, cells_of_device, changed_if_placed, device_changed, halves_put, of_each, place_of_write, slave_changed, with_byte_at}
+use Rattle.pdp_made.specs.ReferenceRows.{Halves, changed_if_placed, device_changed, halves_of_device, halves_put, of_each, place_of_write, slave_changed, with_byte_at}
 use Rattle.pdp_made.proofs.Halves.{HalvesTell, codes_tell, each_tells, high_byte_tells, low_byte_tells, whole_tells}
 use Rattle.pdp_made.proofs.Readings.{device_tells}
 use Rattle.pdp_made.proofs.Registers.{set_tells}
@@ -151,7 +151,7 @@ module _ (d : Data) (log : KeptCycles) (b : BusWorld) (others : Data) where
     -- a byte is written to a register
     module _ (from : Halves) (one other : ℕ) (new : HalvesTell d here from other one) where
       abbrev byte_halves : Register → Halves
-      byte_halves r = halves_put Byte physical (of_each (cells_of_device r)) from
+      byte_halves r = halves_put Byte physical (halves_of_device r) from
 
       abbrev byte_here : Register → ℕ
       byte_here r = word_with_byte (value_in r (length b.drives) (page_of mapping b)) physical one
@@ -160,9 +160,9 @@ module _ (d : Data) (log : KeptCycles) (b : BusWorld) (others : Data) where
       byte_there r = word_with_byte (value_in r (length b.drives) (page_of mapping other_bus)) physical other
 
       byte_word : (r : Register) → HalvesTell d here (byte_halves r) (byte_there r) (byte_here r)
-      byte_word r = byte_at_tells d here (physical % 2 == 0) (of_each (cells_of_device r)) from
+      byte_word r = byte_at_tells d here (physical % 2 == 0) (halves_of_device r) from
           (value_in r (length b.drives) (page_of mapping other_bus)) (value_in r (length b.drives) (page_of mapping b)) other one
-          (each_tells d here (cells_of_device r) _ _ (device_tells d here r (length b.drives) (page_of mapping b))) new
+          (device_tells d here r (length b.drives) (page_of mapping b)) new
 
       abbrev ByteTells : Register → Type 0
       ByteTells r = BusTells d here (device_changed Byte physical r from)

@@ -76,7 +76,8 @@ cells_of_operands size from = whole_of (cut_to size from)
 abbrev pub sets_codes : Size → (Halves → Halves) → Halves → EffectCells
 sets_codes size way from = record {
   value = value_made size way from;
-  codes = made_codes (cells_of_operands size from) (cells_of_operands size from) (cells_of_operands size from);
+  codes = made_codes (cells_of_operands size from) (cells_of_operands size from)
+      (cells_of_operands size from);
 }
 
 -- C is kept

@@ -264,10 +264,13 @@ shift_row r = record {
       s) r))) c;
 }
 
+abbrev pub shift_pair_cells : Pair → List DataCell
+shift_pair_cells pair = whole_of (halves_of pair.high) ++ shift_cells pair.low
+
 abbrev pub shift_pair_row : ℕ → PhaseRow
 shift_pair_row r = record {
   phase = λ _. shift_pair r;
-  made = λ s c. pair_changed (named_pair (inner_of s) r) (pair_cells (named_pair (inner_of
+  made = λ s c. pair_changed (named_pair (inner_of s) r) (shift_pair_cells (named_pair (inner_of
       s) r)) c;
 }
 

@@ -105,17 +105,22 @@ halves_filled fill.Extended old from = extended_byte from
 
 -- Reads
 
--- what a register of the bus is read of: no register but these has data
-abbrev pub cells_of_device : Register → List DataCell
-cells_of_device register.ProgramStatus = each_code CodeNow
-cells_of_device (register.Console KeyboardBuffer) = Buffer Keyboard ∷ []
-cells_of_device (register.PaperTape ReaderBuffer) = Buffer Reader ∷ []
-cells_of_device register.Switches = Buffer Switches ∷ []
-cells_of_device register = []
+-- what a register of the bus is read of: the codes, which are in the low half of the program status
+-- word, or a buffer; no other register has data
+abbrev pub halves_of_codes : (ConditionCode → DataCell) → Halves
+halves_of_codes cell Low = each_code cell
+halves_of_codes cell High = []
+
+abbrev pub halves_of_device : Register → Halves
+halves_of_device register.ProgramStatus half = halves_of_codes CodeNow half
+halves_of_device (register.Console KeyboardBuffer) half = Buffer Keyboard ∷ []
+halves_of_device (register.PaperTape ReaderBuffer) half = Buffer Reader ∷ []
+halves_of_device register.Switches half = Buffer Switches ∷ []
+halves_of_device register half = []
 
 abbrev pub halves_at : Slave → Halves
 halves_at (Core k) half = CoreByte k half ∷ []
-halves_at (Device register) half = cells_of_device register
+halves_at (Device register) half = halves_of_device register half
 halves_at Nobody half = []
 
 -- the half of a word that is at this address [1.4]
@@ -157,7 +162,7 @@ buffer_put Byte physical buffer from = if physical % 2 == 0 then from Low else b
 -- and the punch's buffer the byte [6.43] [6.45], and go of the reader may clear PRB [6.62]
 abbrev pub device_changed : Size → ℕ → Register → Halves → DataCell → List DataCell
 device_changed size physical register.ProgramStatus from (CodeNow code) =
-    halves_put size physical (of_each (each_code CodeNow)) from Low
+    halves_put size physical (halves_of_device register.ProgramStatus) from Low
 device_changed size physical (register.Console PrinterBuffer) from (Buffer Printer) =
     buffer_put size physical (Buffer Printer) from
 device_changed size physical (register.PaperTape PunchBuffer) from (Buffer Punch) =

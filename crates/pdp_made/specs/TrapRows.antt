@@ -18,8 +18,8 @@ use Rattle.pdp_made.specs.Cells.{Low, DataCell, CodeSaved, StatusByte}
 use Rattle.pdp_made.specs.InstructionRows.{codes_changed}
 use Rattle.pdp_made.specs.OperandRows.{keeps_data, lower_row}
 use Rattle.pdp_made.specs.PhaseRows.{PhaseRow, of_itself}
-use Rattle.pdp_made.specs.ReferenceRows.{Halves, changed_by_reference, each_code, halves_referred}
-use Rattle.pdp_made.specs.ReferenceRows.{of_each, of_nothing, register_changed}
+use Rattle.pdp_made.specs.ReferenceRows.{Halves, changed_by_reference, halves_of_codes}
+use Rattle.pdp_made.specs.ReferenceRows.{halves_referred, of_nothing, register_changed}
 
 -- the context of a trap with these codes
 abbrev pub with_saved_codes : SavedContext → Codes → SavedContext
@@ -29,7 +29,7 @@ with_saved_codes context codes = record context {
 
 -- the program status word that is saved
 abbrev pub halves_saved : Halves
-halves_saved = of_each (each_code CodeSaved)
+halves_saved half = halves_of_codes CodeSaved half
 
 abbrev pub saved_status : SavedContext → Codes → ℕ
 saved_status context codes = status_word (with_saved_codes context codes).status
