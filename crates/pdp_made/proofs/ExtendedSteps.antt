@@ -232,14 +232,14 @@ shifts_pair r = sound_by _ (λ saved s d log shape.
     let pair : Pair = named_pair (inner_of s) r in
     let from : List DataCell = shift_pair_cells pair in
     let high : (EachSame d (data_of saved s) from → EachSame d (data_of saved s) (whole_of (halves_of pair.high))) =
-        λ all. each_front d (data_of saved s) (whole_of (halves_of pair.high)) (shift_cells pair.low) all in
+    λ all. each_front d (data_of saved s) (whole_of (halves_of pair.high)) (shift_cells pair.low) all in
     let low : (EachSame d (data_of saved s) from → EachSame d (data_of saved s) (shift_cells pair.low)) =
-        λ all. each_back d (data_of saved s) (whole_of (halves_of pair.high)) (shift_cells pair.low) all in
+    λ all. each_back d (data_of saved s) (whole_of (halves_of pair.high)) (shift_cells pair.low) all in
     let same : (EachSame d (data_of saved s) from → ashc_effect (long_in (processor_with d.words s.world.processor) pair) d.value ≡ ashc_effect (long_in s.world.processor pair) s.latch.value) =
-        λ all. ashc_same _ _ d.value s.latch.value
-        (ap₂ (λ first second. join_words first second) (register_is saved s d shape pair.high (high all))
-        (register_is saved s d shape pair.low (each_front d (data_of saved s) (whole_of (halves_of pair.low)) (ValueByte Low ∷ []) (low all))))
-        (each_back d (data_of saved s) (whole_of (halves_of pair.low)) (ValueByte Low ∷ []) (low all)).0 in
+    λ all. ashc_same _ _ d.value s.latch.value
+    (ap₂ (λ first second. join_words first second) (register_is saved s d shape pair.high (high all))
+    (register_is saved s d shape pair.low (each_front d (data_of saved s) (whole_of (halves_of pair.low)) (ValueByte Low ∷ []) (low all))))
+    (each_back d (data_of saved s) (whole_of (halves_of pair.low)) (ValueByte Low ∷ []) (low all)).0 in
     due_is d (data_of saved s) pair from _ _ (λ all. ap (λ effect. effect.codes) (same all)) _ _
     (pair_set d (data_of saved s) pair from s.world.processor (processor_with d.words s.world.processor) _ _ _ _ shape.words_size (λ n half all. all.0)
     (λ all. ap (λ effect. high_word effect.value) (same all)) (λ all. ap (λ effect. low_word effect.value) (same all))))

@@ -9,7 +9,6 @@ use Rattle.pdp_console.specs.declared.kl.KlRegister.TheVariants.{KeyboardStatus,
 use Rattle.pdp_tape.specs.declared.pc11.Pc11Register.TheVariants.{ReaderStatus, ReaderBuffer, PunchStatus, PunchBuffer}
 use Rattle.pdp_store.specs.CycleLogs.{KeptCycles}
 use Rattle.pdp_io_page.specs.Handbook.Register.{after_read, value_in}
-use Rattle.pdp_io_page.specs.Handbook.Status.{status_word}
 use Rattle.pdp_io_page.specs.declared.io_page.IoPage.{IoPage}
 use Rattle.pdp_io_page.specs.declared.register.Register.{Register}
 use Rattle.pdp_io_page.specs.declared.register.Register.TheVariants as register
@@ -17,9 +16,9 @@ use Rattle.pdp_unibus.specs.Handbook.BusWorld.{BusWorld}
 use Rattle.pdp_unibus.specs.Handbook.Cycle.{Slave, Core, Device, Nobody, slave_at}
 use Rattle.pdp_action.specs.declared.trap.Trap.{Trap}
 use Rattle.pdp_operand.specs.Handbook.Operand.{reading}
-use Rattle.pdp_operand.specs.Handbook.Reference.{Reference, half_at, is_odd, perform, reference_to, translation}
+use Rattle.pdp_operand.specs.Handbook.Reference.{Reference, is_odd, perform, reference_to, translation}
 use Rattle.pdp_operand.proofs.Shape.{reply_by, shape_at, shape_by, shape_if, shape_of, perform_is}
-use Rattle.pdp_made.specs.Cells.{Half, Low, High, byte_in, Data, CodeNow, EachSame, bus_with, data_on, io_page_with}
+use Rattle.pdp_made.specs.Cells.{Half, Low, High, byte_in, Data, CodeNow, bus_with, data_on, io_page_with}
 use Rattle.pdp_made.specs.ReferenceRows.{Halves, half_of_address, halves_at, halves_if_placed, halves_of_device, halves_read, halves_referred}
 use Rattle.pdp_made.proofs.Halves.{HalvesTell, codes_same, status_tells}
 

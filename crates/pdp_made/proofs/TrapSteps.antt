@@ -21,7 +21,7 @@ use Rattle.pdp_instruction.specs.declared.saved_context.SavedContext.{SavedConte
 use Rattle.pdp_made.specs.Cells.{byte_in, BusData, Data, CoreByte, DriveByte, RegisterByte, CodeNow, Buffer, ValueByte, SourceByte, ResultByte, StatusByte, CodeDue, CodeSaved, DeviceBuffer, Keyboard, Printer, Reader, Punch, Switches, EachSame, Half, Low, SameShape, data_of, data_on, flag_in, held_in, processor_with, with_data}
 use Rattle.pdp_made.specs.OperandRows.{keeps_data, lower_row}
 use Rattle.pdp_made.specs.PhaseRows.{AreSoundRows, IsSoundRow, CellsTell, TellsEnds, of_itself}
-use Rattle.pdp_made.specs.ReferenceRows.{Halves, changed_by_reference, changed_if_placed, place_of_write, each_code, halves_referred, of_nothing, register_changed}
+use Rattle.pdp_made.specs.ReferenceRows.{Halves, changed_by_reference, changed_if_placed, place_of_write, halves_referred, of_nothing, register_changed}
 use Rattle.pdp_made.specs.TrapRows.{bare_stack_row, enter_red_row, enter_row, give_up_row, halves_saved, of_new_status, put_at, put_word_row, red_rows, save_row, saved_counter, saved_status, status_changed, trap_rows, vector_status_row}
 use Rattle.pdp_made.proofs.Frames.{CodesTell, codes_are, itself_tells, on_same, sound_by, status_is, words_changed, words_marking}
 use Rattle.pdp_made.proofs.Halves.{HalvesTell, codes_same, codes_tell, status_tells}

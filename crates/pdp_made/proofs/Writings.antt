@@ -24,7 +24,7 @@ use Rattle.pdp_operand.specs.Handbook.Reference.{Kind, WriteWord, WriteByte, Ref
 use Rattle.pdp_operand.proofs.Shape.{reply_by, shape_at, shape_by, shape_if, shape_of, perform_is}
 use Rattle.pdp_made.specs.Cells.{Half, Low, High, byte_in, BusData, ConditionCode, flag_in, Data, DataCell, CoreByte, DriveByte, CodeNow, Buffer, DeviceBuffer, Keyboard, Printer, Reader, Punch, Switches, held_in, EachSame, bus_with, data_on}
 use Rattle.pdp_made.specs.ReferenceRows.{Halves, changed_if_placed, device_changed, halves_of_device, halves_put, of_each, place_of_write, slave_changed, with_byte_at}
-use Rattle.pdp_made.proofs.Halves.{HalvesTell, codes_tell, each_tells, high_byte_tells, low_byte_tells, whole_tells}
+use Rattle.pdp_made.proofs.Halves.{HalvesTell, codes_tell, high_byte_tells, low_byte_tells, whole_tells}
 use Rattle.pdp_made.proofs.Readings.{device_tells}
 use Rattle.pdp_made.proofs.Registers.{set_tells}
 

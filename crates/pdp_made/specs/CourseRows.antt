@@ -97,8 +97,8 @@ IsSoundCourse (Along rows next caught) =
     (t : State) → caught trap (inner_of (with_data d log t)) ≡ caught trap (inner_of t))
 IsSoundCourse (Saving rest) = IsSoundCourse rest
 
--- The law of courses: if the cells that `made_along` names for a cell are the same before, that cell
--- is the same after.
+-- The law of courses: if the cells that `made_along` names for a cell are the same before, that
+-- cell is the same after.
 abbrev pub CoursesTell : Type 0
 CoursesTell = (rows : CourseRows) (saved other : Codes) (s u : State) → IsSoundCourse rows
     → AreAlike saved other s u → GoAlong rows saved other s u → (c : DataCell)

@@ -10,11 +10,13 @@ use Rattle.pdp_action.specs.Operation.{size_of_modification, size_of_replacement
 use Rattle.pdp_action.specs.declared.action.Action.{Action}
 use Rattle.pdp_action.specs.declared.action.Action.TheVariants as action
 use Rattle.pdp_action.specs.declared.operation.Combination.{Combination}
+use Rattle.pdp_action.specs.declared.operation.Combination.TheVariants.{Add}
 use Rattle.pdp_action.specs.declared.operation.Comparison.{Comparison}
 use Rattle.pdp_action.specs.declared.operation.Modification.{Modification}
 use Rattle.pdp_action.specs.declared.operation.Replacement.{Replacement}
 use Rattle.pdp_decode.specs.Fields.{register_number}
 use Rattle.pdp_decode.specs.declared.instruction.Specifier.{Specifier}
+use Rattle.pdp_decode.specs.declared.instruction.Specifier.TheVariants.{Register}
 use Rattle.pdp_operand.specs.Handbook.Operand.{fill_of, named_register_id}
 use Rattle.pdp_operand.specs.Phases.Phase.{Phase, State, inner_of, raising}
 use Rattle.pdp_operand.specs.declared.place.Fill.{Fill}
@@ -309,3 +311,7 @@ rows_of_action (action.Multiply register source) = extended_rows (multiply_row r
 rows_of_action (action.Divide register source) = extended_rows (divide_row register) source
 rows_of_action (action.Shift register source) = extended_rows (shift_row register) source
 rows_of_action (action.ShiftPair register source) = extended_rows (shift_pair_row register) source
+
+-- ADD R0,R1
+abbrev pub add_registers : Action
+add_registers = action.Combine Add (Register 0) (Register 1)

@@ -76,9 +76,9 @@ GoTheSameWay (row ∷ rows) saved other s u =
     BothEndAlike (λ t v. GoTheSameWay rows saved other t v) saved other (step (row.phase saved) s)
     (step (row.phase other) u)
 
--- The law of plans: for phases with sound rows that go the same way from two states alike except for
--- data, if the cells that `made_through` names for a cell are the same before, that cell is the same
--- after, also where they come to a trap.
+-- The law of plans: phases with sound rows go the same way from two states alike except for data. If
+-- the cells that `made_through` names for a cell are the same before, that cell is the same after,
+-- also if they come to a trap.
 abbrev pub PlansTell : Type 0
 PlansTell = (rows : List PhaseRow) (saved other : Codes) (s u : State) → AreSoundRows rows
     → AreAlike saved other s u → GoTheSameWay rows saved other s u

@@ -1,27 +1,24 @@
 //! Laws of what cells are made of.
 
-ghost use Rattle.std.specs.Prelude.{◌≡◌, ℕ, Bool, List, [], ◌∷◌};
+ghost use Rattle.std.specs.Prelude.{◌≡◌, ℕ, Bool, [], ◌∷◌};
 ghost use Rattle.pdp_word.specs.declared.codes.Codes.{Codes};
 ghost use Rattle.pdp_action.specs.declared.action.Action.{Action};
-ghost use Rattle.pdp_action.specs.declared.action.Action.TheVariants as action;
-ghost use Rattle.pdp_action.specs.declared.operation.Combination.TheVariants.{Add};
-ghost use Rattle.pdp_decode.specs.declared.instruction.Specifier.TheVariants.{Register};
 ghost use Rattle.pdp_operand.specs.Phases.Phase.{State};
 ghost use Rattle.pdp_operand.specs.Phases.Plan.{phases_of};
 ghost use Rattle.pdp_instruction.specs.Handbook.Action.{plan_of_action};
 ghost use Rattle.pdp_instruction.specs.Handbook.TrapSequence.{red_plan, trap_plan};
 ghost use Rattle.pdp_instruction.specs.declared.saved_context.SavedContext.{SavedContext};
-ghost use Rattle.pdp_made.specs.Cells.{High, Low, RegisterByte};
+ghost use Rattle.pdp_made.specs.Cells.{AreAlike, High, Low, RegisterByte};
 ghost use Rattle.pdp_made.specs.CourseRows.{CoursesTell, InstructionsTell, IsSoundCourse};
 ghost use Rattle.pdp_made.specs.CourseRows.{RowsFollowInstructions, RowsFollowSequences};
 ghost use Rattle.pdp_made.specs.CourseRows.{SequencesTell, instruction_rows, sequence_rows};
-ghost use Rattle.pdp_made.specs.InstructionRows.{rows_of_action};
-ghost use Rattle.pdp_made.specs.PhaseRows.{AreSoundRows, PlansTell, made_through, phases_in};
+ghost use Rattle.pdp_made.specs.InstructionRows.{add_registers, rows_of_action};
+ghost use Rattle.pdp_made.specs.PhaseRows.{AreSoundRows, GoTheSameWay, PlansTell, made_through};
+ghost use Rattle.pdp_made.specs.PhaseRows.{phases_in};
 ghost use Rattle.pdp_made.specs.TrapRows.{red_rows, trap_rows, with_saved_codes};
 
 /// A law of rows: the rows of each action and of each sequence are those of the phases of its plan,
 /// in their order.
-#[tactic(auto, using(crate::proofs::ActionRows::rows_phases, crate::proofs::Courses::trap_phases, crate::proofs::Courses::red_phases))]
 pub fn rows_are_those_of_plans()
     ensures actions { (saved : Codes) (a : Action)
         → phases_in (rows_of_action a) saved ≡ phases_of (plan_of_action a) }
@@ -36,7 +33,6 @@ pub fn rows_are_those_of_plans()
 /// A law of rows: each row of an action, of an instruction with its fetch and its traps, and of a
 /// sequence is sound. From two states alike except for data, if the cells that it names for a cell
 /// are the same in both, that cell is the same after the phase.
-#[tactic(auto, using(crate::proofs::ActionRows::rows_sound, crate::proofs::Courses::instruction_sound, crate::proofs::Courses::sequence_sound))]
 pub fn each_row_tells_what_its_phase_makes()
     ensures actions { (a : Action) → AreSoundRows (rows_of_action a) }
     ensures instructions { IsSoundCourse instruction_rows }
@@ -45,7 +41,8 @@ pub fn each_row_tells_what_its_phase_makes()
 {}
 
 /// A law of plans: for phases with sound rows that go the same way from two states alike except for
-/// data, if the cells that the rows name for a cell are the same before, that cell is the same after.
+/// data, if the cells that the rows name for a cell are the same before, that cell is the same
+/// after.
 #[tactic(auto, using(crate::proofs::Through::through))]
 pub fn rows_tell_what_plans_make()
     ensures { PlansTell }
@@ -58,30 +55,28 @@ pub fn rows_tell_what_courses_make()
 {}
 
 /// A law of instructions, each with its fetch and its traps: if it goes the same way from two states
-/// alike except for data, and the cells that its rows name for a cell are the same before, that cell
-/// is the same after.
-#[tactic(auto, using(crate::proofs::Courses::instruction_followed, crate::proofs::Courses::instructions))]
+/// alike except for data, and the cells that its rows name for a cell are the same before, that
+/// cell is the same after.
 pub fn rows_tell_what_instructions_make()
     ensures follows { RowsFollowInstructions }
     ensures tells { InstructionsTell }
 {}
 
-/// A law of the sequences of traps and interrupts: the same, where the saved codes are cells too.
-#[tactic(auto, using(crate::proofs::Courses::sequence_followed, crate::proofs::Courses::sequences))]
+/// A law of the sequences of traps and interrupts: the same, and the saved codes are cells too.
 pub fn rows_tell_what_sequences_make()
     ensures follows { RowsFollowSequences }
     ensures tells { SequencesTell }
 {}
 
-/// A law, as an example: after `ADD R0,R1` the low half of R1 is made of both low halves, and the
-/// high half of both registers.
-#[tactic(auto, using(crate::proofs::Example::low_of_sum, crate::proofs::Example::high_of_sum))]
+/// A law, as an example: `ADD R0,R1` goes the same way whatever the registers hold. After it the low
+/// half of R1 is made of both low halves, and the high half of both registers.
 pub fn sums_are_made_of_both_registers()
+    ensures way { (saved other : Codes) (s u : State) → AreAlike saved other s u
+        → GoTheSameWay (rows_of_action add_registers) saved other s u }
     ensures low { (saved : Codes) (s : State)
-        → made_through (rows_of_action (action.Combine Add (Register 0) (Register 1))) saved s
-        (RegisterByte 1 Low) ≡ RegisterByte 0 Low ∷ RegisterByte 1 Low ∷ [] }
+        → made_through (rows_of_action add_registers) saved s (RegisterByte 1 Low)
+        ≡ RegisterByte 0 Low ∷ RegisterByte 1 Low ∷ [] }
     ensures high { (saved : Codes) (s : State)
-        → made_through (rows_of_action (action.Combine Add (Register 0) (Register 1))) saved s
-        (RegisterByte 1 High)
+        → made_through (rows_of_action add_registers) saved s (RegisterByte 1 High)
         ≡ RegisterByte 0 Low ∷ RegisterByte 1 Low ∷ RegisterByte 0 High ∷ RegisterByte 1 High ∷ [] }
 {}
