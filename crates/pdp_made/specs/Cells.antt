@@ -1,6 +1,7 @@
--- The cells that hold a machine's data, and when two machines are alike except for data. PC, mode,
--- priority, T, places of operands, mapping, the states of devices and the registers of the disk's
--- controller are no data: they say which way a program goes. No rule of the handbook is here.
+-- The cells that hold a machine's data, and when two states are alike except for data. PC, mode,
+-- priority, T, the places of operands, mapping, the states of devices and the registers of the
+-- disk's controller are no data: they are the way that a program goes. No rule of the handbook is
+-- here.
 use Rattle.std.specs.Prelude.{ℕ, ◌≡◌, ◌/◌, ◌%◌, Bool, false, List, [], ◌∷◌, Option, Some, None}
 use Rattle.std.specs.Prelude.{length, is_some, get_or, slice_index}
 use Rattle.pdp_word.specs.declared.codes.Codes.{Codes}
@@ -100,7 +101,7 @@ data_on b = record {
   switches = b.io_page.switches;
 }
 
--- the data of a state, where the sequence of a trap saves these codes
+-- the data of a state in which the sequence of a trap saves these codes
 abbrev pub data_of : Codes → State → Data
 data_of saved s = record {
   bus = data_on s.world.bus;
@@ -113,14 +114,14 @@ data_of saved s = record {
   saved = saved;
 }
 
--- no codes, and the data of a state where none are saved
+-- the data of a state in which no codes are saved: any would do, since no phase has them
 abbrev pub no_saved_codes : Codes
 no_saved_codes = record { n = false; z = false; v = false; c = false }
 
 abbrev pub data_left : State → Data
 data_left s = data_of no_saved_codes s
 
--- that of a world: nothing is handed on
+-- the data of a world, in which no phase hands anything to the next
 abbrev pub data_at : Codes → World → Data
 data_at saved w = record {
   bus = data_on w.bus;
@@ -178,8 +179,8 @@ with_data d log s = state_of (processor_with d.words s.world.processor) (bus_wit
 abbrev pub mode_in_word : ℕ → Mode
 mode_in_word word = (status_of_word word).mode
 
--- what the data has of the way: how many words core has, and the registers, how many drives there
--- are, whether codes are due, and the mode of a new program status word
+-- What data has of the way is the same in both: the number of words of core and of the registers,
+-- the number of drives, whether codes are due, and the mode of a new program status word.
 pub record SameShape (d e : Data) : Type 0 where
   pub core_size : length d.bus.core ≡ length e.bus.core
   pub drives_count : length d.bus.drives ≡ length e.bus.drives
@@ -187,13 +188,13 @@ pub record SameShape (d e : Data) : Type 0 where
   pub both_due : is_some d.due ≡ is_some e.due
   pub new_mode : mode_in_word d.status ≡ mode_in_word e.status
 
--- Two states are alike except for data. The sequence of a trap saves codes: these in the one, and
--- these in the other.
+-- Two states are alike except for data: the one is the other with its own data. `saved` and `other`
+-- are the codes that the sequence of a trap saves in each of them.
 pub record AreAlike (saved other : Codes) (s u : State) : Type 0 where
   pub same_way : u ≡ with_data (data_of other u) u.world.bus.log s
   pub shape : SameShape (data_of other u) (data_of saved s)
 
--- Two worlds are alike except for data.
+-- two worlds are alike except for data
 pub record WorldsAlike (w v : World) : Type 0 where
   pub same_way : v ≡ world (processor_with v.processor.words w.processor) (bus_with (data_on
       v.bus) v.bus.log w.bus)
@@ -209,7 +210,7 @@ held_in Reader d = d.reader
 held_in Punch d = d.punch
 held_in Switches d = d.switches
 
--- a cell holds the same in both
+-- a cell holds the same in data d and in data e
 abbrev pub Same : Data → Data → DataCell → Type 0
 Same d e (CoreByte k half) = byte_in half (slice_index d.bus.core k)
     ≡ byte_in half (slice_index e.bus.core k)
@@ -226,7 +227,7 @@ Same d e (StatusByte half) = byte_in half d.status ≡ byte_in half e.status
 Same d e (CodeDue code) = flag_due code d.due ≡ flag_due code e.due
 Same d e (CodeSaved code) = flag_in code d.saved ≡ flag_in code e.saved
 
--- each of these cells
+-- each of these cells does
 abbrev pub EachSame : Data → Data → List DataCell → Type 0
 EachSame d e [] = Unit {0}
 EachSame d e (c ∷ cs) = Same d e c × EachSame d e cs

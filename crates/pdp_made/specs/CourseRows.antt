@@ -1,5 +1,5 @@
--- Rows of courses: of an instruction, its fetch and its traps with it. At a trap the codes of then
--- are saved. No rule of the handbook is here but which rows follow which.
+-- Rows of courses: of an instruction with its fetch and its traps, and of sequences. No rule of the
+-- handbook is here.
 use Rattle.std.specs.Prelude.{◌≡◌, ℕ, Bool, true, List, [], ◌∷◌, flat_map, Result, Ok, Err}
 use Rattle.pdp_word.specs.declared.codes.Codes.{Codes}
 use Rattle.pdp_action.specs.Action.{action_of}
@@ -22,8 +22,8 @@ use Rattle.pdp_made.specs.PhaseRows.{GoTheSameWay, AreSoundRows, PhaseRow, made_
 use Rattle.pdp_made.specs.PhaseRows.{phases_in}
 use Rattle.pdp_made.specs.TrapRows.{give_up_row, red_rows, trap_rows, with_saved_codes}
 
--- Rows of a course: rows of a plan, with what follows if it goes on and if it comes to a trap; or
--- the codes of now are saved, and the rest follows.
+-- The rows of a course: those of a plan, with what follows if it goes on and if it comes to a trap;
+-- or the codes of now are saved, and the rest follows.
 pub data CourseRows : Type 0 where
   Finished : CourseRows
   Along : List PhaseRow → (Inner → CourseRows) → (Trap → Inner → CourseRows) → CourseRows
@@ -40,7 +40,7 @@ follow_rows (Along rows next caught) saved s =
     (inner_of t)) saved t) s.latch (run (phases_in rows saved) s)
 follow_rows (Saving rest) saved s = follow_rows rest (codes_at s) s
 
--- at a trap what the plan handed on is lost: the latch is as it was before the plan
+-- at a trap the latch is as it was before the plan
 abbrev pub of_lost_plan : (DataCell → List DataCell) → DataCell → List DataCell
 of_lost_plan made (CoreByte k half) = made (CoreByte k half)
 of_lost_plan made (DriveByte n k half) = made (DriveByte n k half)
@@ -50,6 +50,7 @@ of_lost_plan made (Buffer buffer) = made (Buffer buffer)
 of_lost_plan made (CodeSaved code) = made (CodeSaved code)
 of_lost_plan made c = c ∷ []
 
+-- what is saved are the codes of now
 abbrev pub of_saved_codes : DataCell → List DataCell
 of_saved_codes (CodeSaved code) = CodeNow code ∷ []
 of_saved_codes c = c ∷ []
@@ -69,7 +70,7 @@ made_along (Along rows next caught) saved s c =
     (inner_of t)) saved t) s.latch (made_through rows saved s) (run (phases_in rows saved) s) c
 made_along (Saving rest) saved s c = flat_map of_saved_codes (made_along rest (codes_at s) s c)
 
--- Two states go the same way along a course: phase by phase, and what follows a plan does.
+-- Two states go the same way along a course: along the phases of its plan, and along what follows.
 abbrev pub NextAlike : (State → State → Type 0) → (Trap → State → State → Type 0) → Latch → Latch
     → Result State Stop → Result State Stop → Type 0
 NextAlike next caught latch left (Ok t) (Ok v) = next t v
@@ -87,7 +88,7 @@ GoAlong (Along rows next caught) saved other s u =
     (phases_in rows other) u)
 GoAlong (Saving rest) saved other s u = GoAlong rest (codes_at s) (codes_at u) s u
 
--- Each row of a course is sound, and which rows follow is told by no data.
+-- Each row of a course is sound, and which rows follow depends on no data.
 abbrev pub IsSoundCourse : CourseRows → Type 0
 IsSoundCourse Finished = Unit {0}
 IsSoundCourse (Along rows next caught) =
@@ -107,7 +108,7 @@ CoursesTell = (rows : CourseRows) (saved other : Codes) (s u : State) → IsSoun
 
 -- The rows of an instruction
 
--- after the red sequence, or once it can't go on
+-- the red sequence, and what follows if it can't go on
 abbrev pub red_course_rows : SavedContext → CourseRows
 red_course_rows context = Along (red_rows context) (λ _. Finished) (λ _ _. Along (give_up_row
     context ∷ []) (λ _. Finished) (λ _ _. Finished))
@@ -142,7 +143,7 @@ RowsFollowSequences = (marks : Bool) (vector : ℕ) (context : SavedContext) (sa
     (s : State) → follow_rows (sequence_rows marks vector context) saved s
     ≡ follow (sequence marks vector (with_saved_codes context saved)) s
 
--- The law of instructions, with their fetch and their traps: two states are alike except for data,
+-- The law of instructions, each with its fetch and its traps: two states are alike except for data,
 -- and the instruction goes the same way from both. If the cells that its rows name for a cell are
 -- the same before, that cell is the same after.
 abbrev pub InstructionsTell : Type 0

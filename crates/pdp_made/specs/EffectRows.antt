@@ -1,5 +1,6 @@
 -- What the value and the codes of each operation are made of: DEC PDP-11/40 Processor Handbook
--- (1972), Instruction set.
+-- (1972), Instruction set. Numbers have no bound here, so the value of BIC is made of the whole
+-- source, and the high half of SWAB of both halves.
 use Rattle.std.specs.Prelude.{List, [], ◌∷◌, ◌++◌}
 use Rattle.pdp_word.specs.declared.size.Size.{Size}
 use Rattle.pdp_word.specs.declared.size.Size.TheVariants.{Word}
@@ -40,8 +41,7 @@ abbrev pub with_carry : Halves → Halves
 with_carry from half = from half ++ carry_now
 
 -- how bits go from half to half: not at all; in a sum from the low half to the high one; in a shift
--- to the right from the high half to the low one; both ways in SWAB. Numbers have no bound here, so
--- the new high half of SWAB may have more than the old low half.
+-- to the right from the high half to the low one; both ways in SWAB
 abbrev pub straight : Halves → Halves
 straight from = from
 

@@ -1,6 +1,6 @@
 -- Rows of the phases that find, read and write operands: DEC PDP-11/40 Processor Handbook (1972),
--- Addressing modes. An operand's place is no data, so finding one makes nothing but the new value
--- of a register that steps.
+-- Addressing modes. An operand's place is no data: an address and an index word are named by no
+-- row, and a phase that finds an operand changes no cell but a register that steps.
 use Rattle.std.specs.Prelude.{ℕ, List, [], ◌∷◌}
 use Rattle.pdp_word.specs.declared.size.Size.{Size}
 use Rattle.pdp_kt11.specs.declared.mode.Mode.{Mode}
@@ -47,7 +47,7 @@ lower_row mode r step = record {
   made = λ s c. register_stepped (register_id_of (mode (inner_of s)) r) c;
 }
 
--- the operand's place is found [3.1] [3.2] [3.3] [3.4] [3.5] [3.6] [3.7] [3.8]
+-- the rows of each addressing mode [3.1] [3.2] [3.3] [3.4] [3.5] [3.6] [3.7] [3.8]
 abbrev pub find_rows : Size → Specifier → List PhaseRow
 find_rows size (Register r) = keeps_data (name_register r) ∷ []
 find_rows size (Deferred r) = keeps_data (point r) ∷ []

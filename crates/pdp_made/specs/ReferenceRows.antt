@@ -1,6 +1,6 @@
--- What a reference reads is made of, and what it changes: PDP-11 Peripherals Handbook, Unibus, KL11
--- and PC11; DEC PDP-11/40 Processor Handbook (1972), General registers, Processor status word and
--- Switch register. How bytes are written is [P].
+-- What registers and references are made of, and what changes them: DEC PDP-11/40 Processor
+-- Handbook (1972), General registers and Processor status word; PDP-11 Peripherals Handbook,
+-- Unibus, KL11 and PC11. How bytes are written is [P].
 use Rattle.std.specs.Prelude.{ℕ, ◌%◌, ◌==◌, Bool, false, List, [], ◌∷◌, ◌++◌, Result, Ok}
 use Rattle.std.specs.Prelude.{Err, length}
 use Rattle.std.specs.Prelude.{if◌then◌else◌}
@@ -31,7 +31,7 @@ use Rattle.pdp_made.specs.Cells.{ConditionCode, Negative, Zero, Overflow, Carry}
 abbrev pub Halves : Type 0
 Halves = Half → List DataCell
 
--- of no cell, of these cells for each half, and of which cells the whole word is made
+-- no cell; the same cells for both halves; and the cells of the whole word
 abbrev pub of_nothing : Halves
 of_nothing half = []
 
@@ -41,7 +41,7 @@ of_each cells half = cells
 abbrev pub whole_of : Halves → List DataCell
 whole_of from = from Low ++ from High
 
--- of a byte only the low half is made of anything
+-- a byte is the low half, and its high half is 0
 abbrev pub cut_to : Size → Halves → Halves
 cut_to Word from half = from half
 cut_to Byte from Low = from Low
@@ -65,7 +65,7 @@ halves_of R5 half = RegisterByte 5 half ∷ []
 halves_of KernelStack half = RegisterByte 6 half ∷ []
 halves_of UserStack half = RegisterByte 7 half ∷ []
 
--- whether a register has this place among the words
+-- whether a register has this place among the words of the processor
 abbrev pub is_place_of : RegisterId → ℕ → Bool
 is_place_of ProgramCounter n = false
 is_place_of R0 n = n == 0
@@ -77,14 +77,14 @@ is_place_of R5 n = n == 5
 is_place_of KernelStack n = n == 6
 is_place_of UserStack n = n == 7
 
--- a register is made of these, and every other cell as it is without that
+-- the register is made of these, and every other cell of what `others` names
 abbrev pub register_changed : RegisterId → Halves → (DataCell → List DataCell) → DataCell
     → List DataCell
 register_changed id from others (RegisterByte n half) =
     if is_place_of id n then from half else others (RegisterByte n half)
 register_changed id from others c = others c
 
--- the halves of a word in which a byte replaced one half
+-- the halves of a word in which a byte replaced the low half, the high half, or both with its sign
 abbrev pub with_low_byte : Halves → Halves → Halves
 with_low_byte old from Low = from Low
 with_low_byte old from High = old High ++ from High
@@ -105,8 +105,8 @@ halves_filled fill.Extended old from = extended_byte from
 
 -- Reads
 
--- what a register of the bus is read of: the codes, which are in the low half of the program status
--- word, or a buffer; no other register has data
+-- what a register of the bus is made of: the codes, which are in the low half of the program status
+-- word, or a buffer; every other register is no data
 abbrev pub halves_of_codes : (ConditionCode → DataCell) → Halves
 halves_of_codes cell Low = each_code cell
 halves_of_codes cell High = []
@@ -127,7 +127,7 @@ halves_at Nobody half = []
 abbrev pub half_of_address : ℕ → Half
 half_of_address physical = if physical % 2 == 0 then Low else High
 
--- a byte is the half of its address, whichever half of it is asked for
+-- a byte that is read is the half of its address
 abbrev pub halves_read : Size → ℕ → Halves → Halves
 halves_read Word physical from half = from half
 halves_read Byte physical from half = from (half_of_address physical)
@@ -137,7 +137,7 @@ halves_if_placed size b (Ok physical) half =
     halves_read size physical (halves_at (slave_at (length b.core) physical)) half
 halves_if_placed size b (Err abort) half = []
 
--- what a reference to this address of a mode reads
+-- what a read at this virtual address of a mode is made of
 abbrev pub halves_referred : Size → Mode → ℕ → BusWorld → Halves
 halves_referred size mode address b half =
     halves_if_placed size b (translate mode address Read b.io_page.mapping).address half
@@ -153,13 +153,14 @@ abbrev pub halves_put : Size → ℕ → Halves → Halves → Halves
 halves_put Word physical old from = from
 halves_put Byte physical old from = with_byte_at (half_of_address physical) old from
 
--- a buffer takes the low half alone: a byte written to the odd address does nothing [6.32]
+-- a buffer takes the low half: a byte that is written to the odd address does nothing [6.32]
 abbrev pub buffer_put : Size → ℕ → DataCell → Halves → List DataCell
 buffer_put Word physical buffer from = from Low
 buffer_put Byte physical buffer from = if physical % 2 == 0 then from Low else buffer ∷ []
 
--- a write to a register of the bus: the program status word takes the codes [2.9], the printer's
--- and the punch's buffer the byte [6.43] [6.45], and go of the reader may clear PRB [6.62]
+-- A write to a register of the bus changes the codes, if it is the program status word [2.9], TPB
+-- [6.45] or PPB [6.43]. Go of PRS clears PRB, but not always [6.62]: so PRB is made of itself and
+-- of what is written.
 abbrev pub device_changed : Size → ℕ → Register → Halves → DataCell → List DataCell
 device_changed size physical register.ProgramStatus from (CodeNow code) =
     halves_put size physical (halves_of_device register.ProgramStatus) from Low
@@ -190,12 +191,12 @@ changed_if_placed size b (Ok physical) from c =
     slave_changed size physical (slave_at (length b.core) physical) from c
 changed_if_placed size b (Err abort) from c = c ∷ []
 
--- where a write to this address of a mode goes
+-- the physical address of a write at this virtual address of a mode
 abbrev pub place_of_write : Mode → ℕ → BusWorld → Result ℕ Abort
 place_of_write mode address b = (translate mode address Write b.io_page.mapping).address
 
--- what a reference that writes changes, if what it writes is made of these: a word of core, the
--- codes, or a buffer
+-- what a write at this virtual address of a mode changes, if what it writes is made of `from`: a
+-- word of core, the codes, or a buffer
 abbrev pub changed_by_reference : Size → Mode → ℕ → BusWorld → Halves → DataCell
     → List DataCell
 changed_by_reference size mode address b from (CoreByte k half) =

@@ -1,6 +1,6 @@
 -- Rows of the sequences of traps: DEC PDP-11/40 Processor Handbook (1972), Processor traps and
--- Stack limit violations. A sequence saves PC, which is no data, and the program status word, of
--- which the codes are.
+-- Stack limit violations. Of what a sequence saves, PC is no data, nor is the program status word
+-- but for its codes.
 use Rattle.std.specs.Prelude.{ℕ, ◌+◌, Bool, List, [], ◌∷◌, ◌++◌}
 use Rattle.pdp_word.specs.declared.codes.Codes.{Codes}
 use Rattle.pdp_word.specs.declared.size.Size.TheVariants.{Word}

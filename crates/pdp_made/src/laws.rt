@@ -54,9 +54,9 @@ pub fn rows_tell_what_courses_make()
     ensures { CoursesTell }
 {}
 
-/// A law of instructions, each with its fetch and its traps: if it goes the same way from two states
-/// alike except for data, and the cells that its rows name for a cell are the same before, that
-/// cell is the same after.
+/// A law of instructions, each with its fetch and its traps: if it goes the same way from two
+/// states alike except for data, and the cells that its rows name for a cell are the same before,
+/// that cell is the same after.
 pub fn rows_tell_what_instructions_make()
     ensures follows { RowsFollowInstructions }
     ensures tells { InstructionsTell }
@@ -68,8 +68,8 @@ pub fn rows_tell_what_sequences_make()
     ensures tells { SequencesTell }
 {}
 
-/// A law, as an example: `ADD R0,R1` goes the same way whatever the registers hold. After it the low
-/// half of R1 is made of both low halves, and the high half of both registers.
+/// A law, as an example: `ADD R0,R1` goes the same way whatever the registers hold. After it the
+/// low half of R1 is made of both low halves, and the high half of both registers.
 pub fn sums_are_made_of_both_registers()
     ensures way { (saved other : Codes) (s u : State) → AreAlike saved other s u
         → GoTheSameWay (rows_of_action add_registers) saved other s u }
