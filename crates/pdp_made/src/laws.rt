@@ -17,8 +17,8 @@ ghost use Rattle.pdp_made.specs.PhaseRows.{AreSoundRows, GoTheSameWay, PlansTell
 ghost use Rattle.pdp_made.specs.PhaseRows.{phases_in};
 ghost use Rattle.pdp_made.specs.TrapRows.{red_rows, trap_rows, with_saved_codes};
 
-/// A law of rows: the rows of each action and of each sequence are those of the phases of its plan,
-/// in their order.
+/// A law and no code: the rows of each action and of each sequence are those of the phases of its
+/// plan, in their order.
 pub fn rows_are_those_of_plans()
     ensures actions { (saved : Codes) (a : Action)
         → phases_in (rows_of_action a) saved ≡ phases_of (plan_of_action a) }
@@ -30,9 +30,9 @@ pub fn rows_are_those_of_plans()
         ≡ phases_of (red_plan (with_saved_codes context saved)) }
 {}
 
-/// A law of rows: each row of an action, of an instruction with its fetch and its traps, and of a
-/// sequence is sound. From two states alike except for data, if the cells that it names for a cell
-/// are the same in both, that cell is the same after the phase.
+/// A law and no code: if two states are alike except for data, and the cells that a row names for a
+/// cell are the same in both, that cell is the same after the phase. This holds of each row of an
+/// action, of an instruction with its fetch and its traps, and of a sequence.
 pub fn each_row_tells_what_its_phase_makes()
     ensures actions { (a : Action) → AreSoundRows (rows_of_action a) }
     ensures instructions { IsSoundCourse instruction_rows }
@@ -40,36 +40,38 @@ pub fn each_row_tells_what_its_phase_makes()
         → IsSoundCourse (sequence_rows marks vector context) }
 {}
 
-/// A law of plans: for phases with sound rows that go the same way from two states alike except for
-/// data, if the cells that the rows name for a cell are the same before, that cell is the same
-/// after.
+/// A law and no code: what phases with sound rows make is made of the cells that `made_through`
+/// names. Two states that are alike except for data go the same way along the phases: if these
+/// cells are the same before, the cell is the same after, also at a trap.
 #[tactic(auto, using(crate::proofs::Through::through))]
 pub fn rows_tell_what_plans_make()
     ensures { PlansTell }
 {}
 
-/// A law of courses: the same of plans that follow one another, by how each ended.
+/// A law and no code: what a course makes is made of the cells that `made_along` names. A course is
+/// plans that follow one another by how each ended.
 #[tactic(auto, using(crate::proofs::Courses::courses))]
 pub fn rows_tell_what_courses_make()
     ensures { CoursesTell }
 {}
 
-/// A law of instructions, each with its fetch and its traps: if it goes the same way from two
-/// states alike except for data, and the cells that its rows name for a cell are the same before,
-/// that cell is the same after.
+/// A law and no code: what an instruction makes, with its fetch and its traps, is made of the cells
+/// that its rows name. It goes the same way from two states that are alike except for data: if
+/// these cells are the same before, the cell is the same after.
 pub fn rows_tell_what_instructions_make()
     ensures follows { RowsFollowInstructions }
     ensures tells { InstructionsTell }
 {}
 
-/// A law of the sequences of traps and interrupts: the same, and the saved codes are cells too.
+/// A law and no code: what the sequence of a trap or an interrupt makes is made of the cells that
+/// its rows name, among them the saved codes.
 pub fn rows_tell_what_sequences_make()
     ensures follows { RowsFollowSequences }
     ensures tells { SequencesTell }
 {}
 
-/// A law, as an example: `ADD R0,R1` goes the same way whatever the registers hold. After it the
-/// low half of R1 is made of both low halves, and the high half of both registers.
+/// A law and no code: `ADD R0,R1`, as an example, goes the same way whatever the registers hold.
+/// After it the low half of R1 is made of both low halves, and the high half of both registers.
 pub fn sums_are_made_of_both_registers()
     ensures way { (saved other : Codes) (s u : State) → AreAlike saved other s u
         → GoTheSameWay (rows_of_action add_registers) saved other s u }
