@@ -7,7 +7,7 @@ use Rattle.pdp_action.specs.declared.trap.Trap.TheVariants.{OddAddress, MappingA
 use Rattle.pdp_decode.specs.declared.instruction.Instr.{Instr}
 use Rattle.pdp_store.specs.CycleLogs.{KeptCycles}
 use Rattle.pdp_operand.specs.Phases.Course.{Go, caught_in, ends, follow, go_on, nothing_after}
-use Rattle.pdp_operand.specs.Phases.Phase.{Inner, Latch, State, Stop, inner_of, run}
+use Rattle.pdp_operand.specs.Phases.Phase.{Inner, Latch, State, Stop, inner_of, run, step}
 use Rattle.pdp_operand.specs.Phases.Plan.{Plan, one, phases_of, run_plan}
 use Rattle.pdp_operand.specs.Handbook.Processor.{register_of}
 use Rattle.pdp_operand.proofs.Flattening.{run_phases_of}
@@ -19,7 +19,7 @@ use Rattle.pdp_made.specs.Cells.{AreAlike, Data, DataCell, CoreByte, DriveByte, 
 use Rattle.pdp_made.specs.CourseRows.{CourseRows, Along, CoursesTell, Finished, GoAlong, InstructionsTell, IsSoundCourse, NextAlike, RowsFollowInstructions, RowsFollowSequences, Saving, SequencesTell, after_trap_rows, codes_at, follow_rows, instruction_course_rows, instruction_rows, made_after, made_along, of_lost_plan, of_saved_codes, red_course_rows, sequence_rows, trap_course_rows}
 use Rattle.pdp_made.specs.InstructionRows.{rows_of_action}
 use Rattle.pdp_made.specs.OperandRows.{keeps_data}
-use Rattle.pdp_made.specs.PhaseRows.{BothEndAlike, PhaseRow, CellsTell, TellsEnds, made_through, phases_in}
+use Rattle.pdp_made.specs.PhaseRows.{BothEndAlike, CellsTell, GoTheSameWay, PhaseRow, TellsEnds, made_through, phases_in}
 use Rattle.pdp_made.specs.TrapRows.{give_up_row, red_rows, trap_rows, with_saved_codes}
 use Rattle.pdp_made.proofs.ActionRows.{rows_phases, rows_sound}
 use Rattle.pdp_made.proofs.Through.{each_of, ends_alike, through}
@@ -265,3 +265,35 @@ sequences marks vector context saved other s u alike way c all =
     subst (λ v. Same (data_left (follow (sequence marks vector (with_saved_codes context other)) u)) (data_left v) c) (sequence_followed marks vector context saved s)
     (subst (λ v. Same (data_left v) (data_left (follow_rows (sequence_rows marks vector context) saved s)) c) (sequence_followed marks vector context other u)
     (courses (sequence_rows marks vector context) saved other s u (sequence_sound marks vector context) alike way c all))
+
+-- Each state goes the same way as itself
+pub alike_itself : (saved : Codes) (s : State) → AreAlike saved saved s s
+alike_itself saved s = record {
+  same_way = refl;
+  shape = record { core_size = refl; drives_count = refl; words_size = refl; both_due = refl; new_mode = refl };
+}
+
+module _ (rest : State → State → Type 0) (saved : Codes) (own : (t : State) → rest t t) where
+  end_itself : (one : Result State Stop) → BothEndAlike rest saved saved one one
+  end_itself (Ok t) = (alike_itself saved t, own t)
+  end_itself (Err stop) = (refl, record { same_way = refl; core_size = refl; drives_count = refl; words_size = refl })
+
+go_itself : (rows : List PhaseRow) (saved : Codes) (s : State) → GoTheSameWay rows saved saved s s
+unfolding GoTheSameWay
+go_itself [] saved s = tt
+go_itself (row ∷ rows) saved s = end_itself (λ t v. GoTheSameWay rows saved saved t v) saved (λ t. go_itself rows saved t) (step (row.phase saved) s)
+
+module _ (next : State → State → Type 0) (caught : Trap → State → State → Type 0) (latch : Latch) (own : (t : State) → next t t) (own_trap : (trap : Trap) (t : State) → caught trap t t) where
+  next_itself : (one : Result State Stop) → NextAlike next caught latch latch one one
+  next_itself (Ok t) = own t
+  next_itself (Err stop) = own_trap stop.trap (caught_in latch stop)
+
+pub along_itself : (rows : CourseRows) (saved : Codes) (s : State) → GoAlong rows saved saved s s
+unfolding GoAlong
+along_itself Finished saved s = tt
+along_itself (Along rows next caught) saved s = (
+  go_itself rows saved s,
+  next_itself (λ t v. GoAlong (next (inner_of t)) saved saved t v) (λ trap t v. GoAlong (caught trap (inner_of t)) saved saved t v) s.latch
+      (λ t. along_itself (next (inner_of t)) saved t) (λ trap t. along_itself (caught trap (inner_of t)) saved t) (run (phases_in rows saved) s),
+)
+along_itself (Saving rest) saved s = along_itself rest (codes_at s) s

@@ -9,7 +9,8 @@ ghost use Rattle.pdp_instruction.specs.Handbook.Action.{plan_of_action};
 ghost use Rattle.pdp_instruction.specs.Handbook.TrapSequence.{red_plan, trap_plan};
 ghost use Rattle.pdp_instruction.specs.declared.saved_context.SavedContext.{SavedContext};
 ghost use Rattle.pdp_made.specs.Cells.{AreAlike, High, Low, RegisterByte};
-ghost use Rattle.pdp_made.specs.CourseRows.{CoursesTell, InstructionsTell, IsSoundCourse};
+ghost use Rattle.pdp_made.specs.CourseRows.{CourseRows, CoursesTell, GoAlong, InstructionsTell};
+ghost use Rattle.pdp_made.specs.CourseRows.{IsSoundCourse};
 ghost use Rattle.pdp_made.specs.CourseRows.{RowsFollowInstructions, RowsFollowSequences};
 ghost use Rattle.pdp_made.specs.CourseRows.{SequencesTell, instruction_rows, sequence_rows};
 ghost use Rattle.pdp_made.specs.InstructionRows.{add_registers, rows_of_action};
@@ -68,6 +69,13 @@ pub fn rows_tell_what_instructions_make()
 pub fn rows_tell_what_sequences_make()
     ensures follows { RowsFollowSequences }
     ensures tells { SequencesTell }
+{}
+
+/// A law and no code: each state is alike to itself, and goes the same way as itself along each
+/// course. So what the laws of courses require is met at least there.
+pub fn each_state_goes_the_same_way_as_itself()
+    ensures alike { (saved : Codes) (s : State) → AreAlike saved saved s s }
+    ensures way { (rows : CourseRows) (saved : Codes) (s : State) → GoAlong rows saved saved s s }
 {}
 
 /// A law and no code: `ADD R0,R1`, as an example, goes the same way whatever the registers hold.

@@ -20,7 +20,7 @@
 mod laws;
 
 pub use laws::{
-    each_row_tells_what_its_phase_makes, rows_are_those_of_plans, rows_tell_what_courses_make,
-    rows_tell_what_instructions_make, rows_tell_what_plans_make, rows_tell_what_sequences_make,
-    sums_are_made_of_both_registers,
+    each_row_tells_what_its_phase_makes, each_state_goes_the_same_way_as_itself,
+    rows_are_those_of_plans, rows_tell_what_courses_make, rows_tell_what_instructions_make,
+    rows_tell_what_plans_make, rows_tell_what_sequences_make, sums_are_made_of_both_registers,
 };
