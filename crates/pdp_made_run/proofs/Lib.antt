@@ -1,0 +1,5 @@
+pub mod Lists
+pub mod DiskSteps
+pub mod BeginningSteps
+pub mod Turns
+pub mod Runs
