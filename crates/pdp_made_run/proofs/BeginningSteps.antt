@@ -29,7 +29,7 @@ completed_if : (busy : Bool) (o x : Transmitter) → x.byte ≡ o.byte → (if b
 completed_if true o x same = same
 completed_if false o x same = refl
 
-completed_byte : (o : Transmitter) → (transmitter_completed o).byte ≡ o.byte
+pub completed_byte : (o : Transmitter) → (transmitter_completed o).byte ≡ o.byte
 completed_byte o = completed_if (is_under_way o.operation) o _ refl
 
 printer_kept : (p : Progress) → data_on (printer_done p).bus ≡ data_on p.bus

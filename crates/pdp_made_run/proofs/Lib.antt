@@ -3,3 +3,4 @@ pub mod DiskSteps
 pub mod BeginningSteps
 pub mod Turns
 pub mod Runs
+pub mod Outputs

@@ -1,9 +1,9 @@
 -- What a run is made of: its turns, back to the events and to what the machine held as of power-up.
 -- No rule of the handbook is here.
-use Rattle.std.specs.Prelude.{ℕ, zero, suc, List, [], ◌∷◌, flat_map}
+use Rattle.std.specs.Prelude.{ℕ, zero, suc, ◌≡◌, List, [], ◌∷◌, flat_map}
 use Rattle.pdp_operand.specs.Phases.World.{World}
-use Rattle.pdp_cpu.specs.Handbook.Turn.{one_turn}
-use Rattle.pdp_made.specs.Cells.{DataCell, Same}
+use Rattle.pdp_cpu.specs.Handbook.Turn.{one_turn, printed_in, punched_in}
+use Rattle.pdp_made.specs.Cells.{DataCell, Buffer, Printer, Punch, Same}
 use Rattle.pdp_made_run.specs.Origins.{EachOrigin, Events, Origin, back_through, still_held}
 use Rattle.pdp_made_run.specs.TurnRows.{TurnsAlike, data_in, made_in_turn}
 
@@ -31,3 +31,23 @@ RunsTell = (n : ℕ) (given other : Events) (w v : World) → RunsAlike given ot
     → (c : DataCell) → EachOrigin other given (data_in v) (data_in w) (made_before_turn given n w
     c)
     → Same (data_in (before_turn other n v)) (data_in (before_turn given n w)) c
+
+-- of which inputs a byte is made that comes out of the printer in turn n, or out of the punch: of
+-- those of TPB, or PPB, before it [6.59] [6.60]
+abbrev pub made_of_printed : Events → ℕ → World → List Origin
+made_of_printed events n w = made_before_turn events n w (Buffer Printer)
+
+abbrev pub made_of_punched : Events → ℕ → World → List Origin
+made_of_punched events n w = made_before_turn events n w (Buffer Punch)
+
+-- The law of what comes out: take any other run whose inputs of these names are the same, and which
+-- goes the same way up to turn n. Then the same bytes come out in it.
+abbrev pub PrintsTell : Type 0
+PrintsTell = (n : ℕ) (given other : Events) (w v : World) → RunsAlike given other (suc n) w v
+    → EachOrigin other given (data_in v) (data_in w) (made_of_printed given n w)
+    → printed_in n (other n) (before_turn other n v) ≡ printed_in n (given n) (before_turn given n w)
+
+abbrev pub PunchesTell : Type 0
+PunchesTell = (n : ℕ) (given other : Events) (w v : World) → RunsAlike given other (suc n) w v
+    → EachOrigin other given (data_in v) (data_in w) (made_of_punched given n w)
+    → punched_in n (other n) (before_turn other n v) ≡ punched_in n (given n) (before_turn given n w)

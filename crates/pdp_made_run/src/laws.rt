@@ -1,6 +1,6 @@
 //! Laws of what turns and runs are made of.
 
-ghost use Rattle.pdp_made_run.specs.RunRows.{RunsTell};
+ghost use Rattle.pdp_made_run.specs.RunRows.{PrintsTell, PunchesTell, RunsTell};
 ghost use Rattle.pdp_made_run.specs.TurnRows.{TurnsTell};
 
 /// A law and no code: what a turn makes is made of the origins that `made_in_turn` names, which are
@@ -16,4 +16,10 @@ pub fn rows_tell_what_turns_make()
 #[tactic(auto, using(crate::proofs::Runs::runs))]
 pub fn rows_tell_what_runs_make()
     ensures { RunsTell }
+{}
+
+/// A law and no code: what comes out of the printer and the punch.
+pub fn outputs_are_made_of_buffers()
+    ensures printed { PrintsTell }
+    ensures punched { PunchesTell }
 {}

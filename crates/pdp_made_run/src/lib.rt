@@ -16,4 +16,4 @@
 
 mod laws;
 
-pub use laws::{rows_tell_what_runs_make, rows_tell_what_turns_make};
+pub use laws::{outputs_are_made_of_buffers, rows_tell_what_runs_make, rows_tell_what_turns_make};
