@@ -4,3 +4,5 @@ pub mod BeginningSteps
 pub mod Turns
 pub mod Runs
 pub mod Outputs
+pub mod Itself
+pub mod Example

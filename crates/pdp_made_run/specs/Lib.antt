@@ -5,3 +5,5 @@ pub mod DiskRows
 pub mod BeginningRows
 pub mod TurnRows
 pub mod RunRows
+-- A run, worked out.
+pub mod Example
