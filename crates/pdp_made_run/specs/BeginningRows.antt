@@ -92,7 +92,8 @@ pub record BusesAlike (b d : BusWorld) : Type 0 where
   pub same_way : d ≡ bus_with (data_on d) d.log b
   pub core_size : length d.core ≡ length b.core
   pub drives_count : length d.drives ≡ length b.drives
-  pub drive_sizes : (n : ℕ) → length (words_of_drive d.drives n) ≡ length (words_of_drive b.drives n)
+  pub drive_sizes : (n : ℕ)
+      → length (words_of_drive d.drives n) ≡ length (words_of_drive b.drives n)
 
 -- Before each event both buses are alike, and the events are the same but for their data.
 unfoldable pub EventsAlike : List Event → List Event → Progress → Progress → Type 0

@@ -45,9 +45,11 @@ made_of_punched events n w = made_before_turn events n w (Buffer Punch)
 abbrev pub PrintsTell : Type 0
 PrintsTell = (n : ℕ) (given other : Events) (w v : World) → RunsAlike given other (suc n) w v
     → EachOrigin other given (data_in v) (data_in w) (made_of_printed given n w)
-    → printed_in n (other n) (before_turn other n v) ≡ printed_in n (given n) (before_turn given n w)
+    → printed_in n (other n) (before_turn other n v)
+    ≡ printed_in n (given n) (before_turn given n w)
 
 abbrev pub PunchesTell : Type 0
 PunchesTell = (n : ℕ) (given other : Events) (w v : World) → RunsAlike given other (suc n) w v
     → EachOrigin other given (data_in v) (data_in w) (made_of_punched given n w)
-    → punched_in n (other n) (before_turn other n v) ≡ punched_in n (given n) (before_turn given n w)
+    → punched_in n (other n) (before_turn other n v)
+    ≡ punched_in n (given n) (before_turn given n w)

@@ -27,8 +27,8 @@ pub fn rows_tell_what_runs_make()
 
 /// A law and no code: a byte that comes out of the printer in turn n is made of what TPB is made of
 /// before it, and one that comes out of the punch of what PPB is made of. Take any other run whose
-/// inputs of these names are the same, and which goes the same way up to turn n. Then the same bytes
-/// come out.
+/// inputs of these names are the same, and which goes the same way up to turn n. Then the same
+/// bytes come out.
 pub fn outputs_are_made_of_buffers()
     ensures printed { PrintsTell }
     ensures punched { PunchesTell }
@@ -37,13 +37,14 @@ pub fn outputs_are_made_of_buffers()
 /// A law and no code: each turn, and each run, goes the same way as itself. So what the laws of both
 /// require is met at least there.
 pub fn each_run_goes_the_same_way_as_itself()
-    ensures turn { (t : ℕ) (events : List MachineEvent) (w : World) → TurnsAlike t events events w w }
+    ensures turn { (t : ℕ) (events : List MachineEvent) (w : World)
+        → TurnsAlike t events events w w }
     ensures run { (events : Events) (n : ℕ) (w : World) → RunsAlike events events n w w }
 {}
 
 /// A law and no code: as an example, `MOV @#177570,R0` and `MOV R0,@#10` run from power-up, and the
-/// switches are set in turn 0. Both halves of the word at 10 are then made of this event alone. Turn
-/// 0 goes the same way whatever word the switches are set to.
+/// switches are set in turn 0. Both halves of the word at 10 are then made of this event alone.
+/// Turn 0 goes the same way whatever word the switches are set to.
 pub fn switches_come_to_core()
     ensures low { (word : ℕ)
         → made_before_turn (switches_set_to word) 2 keeps_switches (CoreByte 4 Low)
