@@ -50,8 +50,8 @@ pub data DeviceBuffer : Type 0 where
   Switches : DeviceBuffer
 
 -- A cell: a half of a word of core or of a drive, a half of a register by its place among the words
--- (R0 to R5, and then the stack pointers of kernel and user mode), a condition code, the buffer of a
--- device, or a byte of the paper tape, which none of them changes; then what one phase hands to the
+-- (R0 to R5, and then the stack pointers of kernel and user mode), a condition code, the buffer of
+-- a device, or a byte of the paper tape, which nothing changes; then what one phase hands to the
 -- next, by the names of the latch: halves of the operand, of the source, of the result and of a new
 -- program status word, and the codes that are due; and the codes that the sequence of a trap saves.
 pub data DataCell : Type 0 where
