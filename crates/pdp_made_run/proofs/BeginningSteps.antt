@@ -17,9 +17,9 @@ use Rattle.pdp_operand.specs.Phases.World.{World}
 use Rattle.pdp_operand.specs.declared.processor.Processor.{Processor}
 use Rattle.pdp_cpu.specs.Handbook.Turn.{beginning, processor_after, processor_after_events}
 use Rattle.pdp_made.specs.Cells.{BusData, Data, DataCell, CoreByte, DriveByte, RegisterByte, CodeNow, Buffer, Keyboard, Printer, Reader, Punch, Switches, TapeByte, ValueByte, SourceByte, ResultByte, StatusByte, CodeDue, CodeSaved, Same, bus_with, data_on}
-use Rattle.pdp_made_run.specs.BeginningRows.{BeginAlike, BusesAlike, EventsAlike, before_printer, before_reader, byte_taken, key_taken, made_by_disk, made_by_disk_due, made_by_event, made_by_events, made_by_reader, made_by_reader_due, made_if, made_in_beginning, switches_taken}
+use Rattle.pdp_made_run.specs.BeginningRows.{BeginAlike, BusesAlike, EventsAlike, before_printer, before_reader, byte_taken, made_by_key, made_by_disk, made_by_disk_due, made_by_event, made_by_events, made_by_reader, made_by_reader_due, made_if, made_in_beginning, made_by_switches}
 use Rattle.pdp_made_run.specs.DiskRows.{made_by_completion}
-use Rattle.pdp_made_run.specs.Origins.{EachOrigin, Events, Held, OfEvent, Origin, SameOrigin, back_through, data_numbered, event_data, event_with, still_held}
+use Rattle.pdp_made_run.specs.Origins.{EachOrigin, Events, Held, OfEvent, Origin, SameOrigin, back_through, data_numbered, event_data, with_event_data, still_held}
 use Rattle.pdp_made_run.specs.TurnRows.{data_in}
 use Rattle.pdp_made_run.proofs.DiskSteps.{completion_tells}
 use Rattle.pdp_made_run.proofs.Lists.{OriginsTell, both_steps, each_cell, each_origin}
@@ -94,7 +94,7 @@ module _ (other given : Events) (d e : Data) where
 
   -- a key, and the switches
   key_tells : (own : Origin) (key value : ℕ) (x y : BusData) → ((u t : Data) → SameOrigin other given u t own → value ≡ key)
-      → BusTells (key_taken own) x y (record x { keyboard = value }) (record y { keyboard = key })
+      → BusTells (made_by_key own) x y (record x { keyboard = value }) (record y { keyboard = key })
   key_tells own key value x y same (Buffer Keyboard) all = same (on_there x) (on_here y) all.0
   key_tells own key value x y same (Buffer Printer) all = all.0
   key_tells own key value x y same (Buffer Reader) all = all.0
@@ -113,7 +113,7 @@ module _ (other given : Events) (d e : Data) where
   key_tells own key value x y same (CodeSaved code) all = all.0
 
   switches_tell : (own : Origin) (word value : ℕ) (x y : BusData) → ((u t : Data) → SameOrigin other given u t own → value ≡ word)
-      → BusTells (switches_taken own) x y (record x { switches = value }) (record y { switches = word })
+      → BusTells (made_by_switches own) x y (record x { switches = value }) (record y { switches = word })
   switches_tell own word value x y same (Buffer Switches) all = same (on_there x) (on_here y) all.0
   switches_tell own word value x y same (Buffer Keyboard) all = all.0
   switches_tell own word value x y same (Buffer Printer) all = all.0
@@ -196,7 +196,7 @@ module _ (other given : Events) (d e : Data) where
 
   -- an event
   event_tells : (ev : Event) (value : ℕ) (own : Origin) (p q : Progress) → BusesAlike p.bus q.bus → ((u t : Data) → SameOrigin other given u t own → value ≡ event_data ev)
-      → BusTells (made_by_event ev own p.bus) (data_on q.bus) (data_on p.bus) (data_on (after_event (event_with value ev) q).bus) (data_on (after_event ev p).bus)
+      → BusTells (made_by_event ev own p.bus) (data_on q.bus) (data_on p.bus) (data_on (after_event (with_event_data value ev) q).bus) (data_on (after_event ev p).bus)
   event_tells (event.Key key) value own p q alike same = key_tells own key value (data_on q.bus) (data_on p.bus) same
   event_tells (event.Switches word) value own p q alike same = switches_tell own word value (data_on q.bus) (data_on p.bus) same
   event_tells event.Tick value own p q alike same = λ c all. all.0

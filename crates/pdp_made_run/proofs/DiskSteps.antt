@@ -18,7 +18,7 @@ use Rattle.pdp_rk11.specs.declared.transfer.Transfer.{Transfer}
 use Rattle.pdp_rk11.proofs.Moves.{get_or-moved, length-moved, length-moved_to_one}
 use Rattle.pdp_made.specs.Cells.{Half, byte_in, Data, DataCell, CoreByte, DriveByte, RegisterByte, CodeNow, Buffer, Keyboard, Printer, Reader, Punch, Switches, TapeByte, ValueByte, SourceByte, ResultByte, StatusByte, CodeDue, CodeSaved, EachSame, Same}
 use Rattle.pdp_made.proofs.Registers.{set_tells}
-use Rattle.pdp_made_run.specs.DiskRows.{core_read, drive_written, item_after_all, made_by_function, made_by_completion, made_unless_refused}
+use Rattle.pdp_made_run.specs.DiskRows.{core_moved, drive_written, item_after_all, made_by_function, made_by_completion, made_unless_refused}
 
 -- What moves leave, in two lists of one length
 module _ (d e : Data) (half : Half) where

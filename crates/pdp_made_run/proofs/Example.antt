@@ -26,7 +26,7 @@ use Rattle.pdp_made.specs.CourseRows.{GoAlong, made_along, follow_rows}
 use Rattle.pdp_made.specs.PhaseRows.{GoTheSameWay, made_through}
 use Rattle.pdp_made_run.specs.BeginningRows.{EventsAlike, before_printer, before_punch, before_reader, made_by_events, made_in_beginning}
 use Rattle.pdp_made_run.specs.Example.{keeps_switches, switches_set_to}
-use Rattle.pdp_made_run.specs.Origins.{OfEvent, event_data, event_with}
+use Rattle.pdp_made_run.specs.Origins.{OfEvent, event_data, with_event_data}
 use Rattle.pdp_made_run.specs.RunRows.{RunsAlike, before_turn, made_before_turn}
 use Rattle.pdp_made_run.specs.TurnRows.{TurnsAlike, made_in_turn}
 

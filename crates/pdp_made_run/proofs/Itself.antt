@@ -9,11 +9,11 @@ use Rattle.pdp_cpu.specs.Handbook.Turn.{at_turn}
 use Rattle.pdp_made.specs.Cells.{no_saved_codes}
 use Rattle.pdp_made.proofs.Courses.{along_itself}
 use Rattle.pdp_made_run.specs.BeginningRows.{BeginAlike, BusesAlike, EventsAlike}
-use Rattle.pdp_made_run.specs.Origins.{Events, event_data, event_with}
+use Rattle.pdp_made_run.specs.Origins.{Events, event_data, with_event_data}
 use Rattle.pdp_made_run.specs.RunRows.{RunsAlike, before_turn}
 use Rattle.pdp_made_run.specs.TurnRows.{TurnsAlike, rows_of_turn}
 
-own_data : (e : Event) → e ≡ event_with (event_data e) e
+own_data : (e : Event) → e ≡ with_event_data (event_data e) e
 own_data (event.Key key) = refl
 own_data event.Tick = refl
 own_data event.PrinterDone = refl

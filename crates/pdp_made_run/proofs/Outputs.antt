@@ -12,7 +12,7 @@ use Rattle.pdp_operand.specs.Phases.World.{World}
 use Rattle.pdp_cpu.specs.Handbook.Turn.{printed_in, punched_in}
 use Rattle.pdp_made.specs.Cells.{Buffer, Printer, Punch}
 use Rattle.pdp_made_run.specs.BeginningRows.{BeginAlike, BusesAlike, EventsAlike, before_printer, before_punch, before_reader}
-use Rattle.pdp_made_run.specs.Origins.{event_data, event_with}
+use Rattle.pdp_made_run.specs.Origins.{event_data, with_event_data}
 use Rattle.pdp_made_run.specs.RunRows.{PrintsTell, PunchesTell, RunsAlike, before_turn}
 use Rattle.pdp_made_run.proofs.BeginningSteps.{completed_byte}
 use Rattle.pdp_made_run.proofs.Runs.{runs}
@@ -76,7 +76,7 @@ module _ (p q : Progress) (alike : BusesAlike p.bus q.bus) where
   punched_done same text = ap (λ xs. xs ++ option_to_list (pc11_punched q.bus.io_page.paper_tape)) text ∙ ap (λ byte. p.punched ++ option_to_list byte) (out_of_punch same)
 
   -- an event
-  event_prints : (e : Event) (value : ℕ) → tpb q ≡ tpb p → q.printed ≡ p.printed → (after_event (event_with value e) q).printed ≡ (after_event e p).printed
+  event_prints : (e : Event) (value : ℕ) → tpb q ≡ tpb p → q.printed ≡ p.printed → (after_event (with_event_data value e) q).printed ≡ (after_event e p).printed
   event_prints (event.Key key) value same text = text
   event_prints event.Tick value same text = text
   event_prints event.PrinterDone value same text = printed_done same text
@@ -86,7 +86,7 @@ module _ (p q : Progress) (alike : BusesAlike p.bus q.bus) where
   event_prints (event.Switches word) value same text = text
   event_prints event.Continue value same text = text
 
-  event_punches : (e : Event) (value : ℕ) → ppb q ≡ ppb p → q.punched ≡ p.punched → (after_event (event_with value e) q).punched ≡ (after_event e p).punched
+  event_punches : (e : Event) (value : ℕ) → ppb q ≡ ppb p → q.punched ≡ p.punched → (after_event (with_event_data value e) q).punched ≡ (after_event e p).punched
   event_punches (event.Key key) value same text = text
   event_punches event.Tick value same text = text
   event_punches event.PrinterDone value same text = text

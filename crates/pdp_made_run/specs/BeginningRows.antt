@@ -18,16 +18,16 @@ use Rattle.pdp_made.specs.Cells.{DataCell, Buffer, Keyboard, Reader, Switches, T
 use Rattle.pdp_made.specs.Cells.{WorldsAlike, bus_with, data_on}
 use Rattle.pdp_made_run.specs.DiskRows.{made_by_completion}
 use Rattle.pdp_made_run.specs.Origins.{Origin, Held, OfEvent, back_through, event_data}
-use Rattle.pdp_made_run.specs.Origins.{event_with, still_held}
+use Rattle.pdp_made_run.specs.Origins.{with_event_data, still_held}
 
 -- TKB is made of the key [6.54], and the switches of the word that they are set to
-abbrev pub key_taken : Origin → DataCell → List Origin
-key_taken own (Buffer Keyboard) = own ∷ []
-key_taken own c = still_held c
+abbrev pub made_by_key : Origin → DataCell → List Origin
+made_by_key own (Buffer Keyboard) = own ∷ []
+made_by_key own c = still_held c
 
-abbrev pub switches_taken : Origin → DataCell → List Origin
-switches_taken own (Buffer Switches) = own ∷ []
-switches_taken own c = still_held c
+abbrev pub made_by_switches : Origin → DataCell → List Origin
+made_by_switches own (Buffer Switches) = own ∷ []
+made_by_switches own c = still_held c
 
 -- PRB is made of the tape's next byte, if there is one; at the tape's end it stays, and is also
 -- made of that there is none [6.64]
@@ -47,8 +47,8 @@ made_by_disk b c = map Held (made_by_completion (disk_world_of b) c)
 -- of what an event, which is this origin, makes each cell; a tick, and a completion of the printer
 -- or the punch, change no data
 abbrev pub made_by_event : Event → Origin → BusWorld → DataCell → List Origin
-made_by_event (event.Key key) own b c = key_taken own c
-made_by_event (event.Switches word) own b c = switches_taken own c
+made_by_event (event.Key key) own b c = made_by_key own c
+made_by_event (event.Switches word) own b c = made_by_switches own c
 made_by_event event.ReaderDone own b c = made_by_reader b c
 made_by_event event.DiskDone own b c = made_by_disk b c
 made_by_event e own b c = still_held c
@@ -98,7 +98,7 @@ pub record BusesAlike (b d : BusWorld) : Type 0 where
 -- Before each event both buses are alike, and the events are the same but for their data.
 unfoldable pub EventsAlike : List Event → List Event → Progress → Progress → Type 0
 EventsAlike [] [] p q = Unit {0}
-EventsAlike (e ∷ es) (f ∷ fs) p q = BusesAlike p.bus q.bus × (f ≡ event_with (event_data f) e)
+EventsAlike (e ∷ es) (f ∷ fs) p q = BusesAlike p.bus q.bus × (f ≡ with_event_data (event_data f) e)
     × EventsAlike es fs (after_event e p) (after_event f q)
 EventsAlike [] (f ∷ fs) p q = ⊥
 EventsAlike (e ∷ es) [] p q = ⊥

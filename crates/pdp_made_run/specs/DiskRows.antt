@@ -21,8 +21,8 @@ item_after_all item (suc n) value k x = if k == item then value n else x
 
 -- after a read a word of core is made of the drive's word that was moved there last, if any was
 -- [6.75] [6.91]
-abbrev pub core_read : Transfer → ℕ → ℕ → Half → List DataCell
-core_read t number k half = (
+abbrev pub core_moved : Transfer → ℕ → ℕ → Half → List DataCell
+core_moved t number k half = (
     if t.no_increment then item_after_all t.core_start t.count (λ i. DriveByte number
     (disk_word t i) half ∷ []) k (CoreByte k half ∷ [])
     else item_after t.core_start t.count (λ i. DriveByte number
@@ -39,7 +39,7 @@ drive_written t number k half =
 -- what a function makes of core and of the drives, with the drive of this number: only a read and a
 -- write move words [6.74] [6.75] [6.76] [6.77]
 abbrev pub made_by_function : Function → Transfer → ℕ → DataCell → List DataCell
-made_by_function Read t number (CoreByte k half) = core_read t number k half
+made_by_function Read t number (CoreByte k half) = core_moved t number k half
 made_by_function Write t number (DriveByte n k half) =
     if n == number then drive_written t number k half else DriveByte n k half ∷ []
 made_by_function function t number c = c ∷ []

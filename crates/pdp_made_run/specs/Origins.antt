@@ -16,10 +16,10 @@ event_data (event.Switches word) = word
 event_data e = 0
 
 -- the same event with other data
-abbrev pub event_with : ℕ → Event → Event
-event_with value (event.Key key) = event.Key value
-event_with value (event.Switches word) = event.Switches value
-event_with value e = e
+abbrev pub with_event_data : ℕ → Event → Event
+with_event_data value (event.Key key) = event.Key value
+with_event_data value (event.Switches word) = event.Switches value
+with_event_data value e = e
 
 -- the data of the event of this number in a turn, counted from 0
 abbrev pub data_numbered : ℕ → List Event → ℕ
