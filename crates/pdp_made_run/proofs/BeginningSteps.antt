@@ -1,12 +1,11 @@
 -- The beginning of a turn, step by step.
-use Rattle.std.proofs.Common.{◌≡◌, ◌∙◌, ℕ, zero, suc, Bool, true, false, List, [], ◌∷◌, Option, Some, None, flat_map, length, refl, ap, sym, subst, if◌then◌else◌}
+use Rattle.std.proofs.Common.{◌≡◌, ◌∙◌, ℕ, suc, Bool, true, false, List, [], ◌∷◌, Option, Some, None, flat_map, refl, ap, sym, subst, if◌then◌else◌}
 use Rattle.pdp_device.specs.Operation.{is_due, is_under_way}
 use Rattle.pdp_device.specs.Transmitter.{transmitter_completed}
 use Rattle.pdp_device.specs.declared.transmitter.Transmitter.{Transmitter}
-use Rattle.pdp_tape.specs.Reader.{read_over, reader_completed, takes_byte}
+use Rattle.pdp_tape.specs.Reader.{read_over, takes_byte}
 use Rattle.pdp_tape.specs.declared.reader.Reader.{Reader as PaperReader}
 use Rattle.pdp_store.specs.CycleLogs.{KeptCycles}
-use Rattle.pdp_store.specs.Parts.{words_of_drive}
 use Rattle.pdp_io_page.specs.Handbook.Delays.{is_tick}
 use Rattle.pdp_unibus.specs.Handbook.Beginning.{Progress, after_beginning, after_event, after_events, at_start, before_disk, clock_ticked, disk_done, disk_due, in_turn, printer_done, printer_due, punch_done, punch_due, reader_done, reader_due, tick_due, where_due}
 use Rattle.pdp_unibus.specs.Handbook.BusWorld.{BusWorld, disk_world_of}
@@ -16,13 +15,13 @@ use Rattle.pdp_unibus.specs.declared.event.Event.TheVariants as event
 use Rattle.pdp_operand.specs.Phases.World.{World}
 use Rattle.pdp_operand.specs.declared.processor.Processor.{Processor}
 use Rattle.pdp_cpu.specs.Handbook.Turn.{beginning, processor_after, processor_after_events}
-use Rattle.pdp_made.specs.Cells.{BusData, Data, DataCell, CoreByte, DriveByte, RegisterByte, CodeNow, Buffer, Keyboard, Printer, Reader, Punch, Switches, TapeByte, ValueByte, SourceByte, ResultByte, StatusByte, CodeDue, CodeSaved, Same, bus_with, data_on}
+use Rattle.pdp_made.specs.Cells.{BusData, Data, DataCell, CoreByte, DriveByte, RegisterByte, CodeNow, Buffer, Keyboard, Printer, Reader, Punch, Switches, TapeByte, ValueByte, SourceByte, ResultByte, StatusByte, CodeDue, CodeSaved, bus_with, data_on}
 use Rattle.pdp_made_run.specs.BeginningRows.{BeginAlike, BusesAlike, EventsAlike, before_printer, before_reader, byte_taken, made_by_key, made_by_disk, made_by_disk_due, made_by_event, made_by_events, made_by_reader, made_by_reader_due, made_if, made_in_beginning, made_by_switches}
 use Rattle.pdp_made_run.specs.DiskRows.{made_by_completion}
 use Rattle.pdp_made_run.specs.Origins.{EachOrigin, Events, Held, OfEvent, Origin, SameOrigin, back_through, data_numbered, event_data, with_event_data, still_held}
 use Rattle.pdp_made_run.specs.TurnRows.{data_in}
 use Rattle.pdp_made_run.proofs.DiskSteps.{completion_tells}
-use Rattle.pdp_made_run.proofs.Lists.{OriginsTell, both_steps, each_cell, each_origin}
+use Rattle.pdp_made_run.proofs.Lists.{OriginsTell, both_steps, each_cell}
 
 -- A completion of the printer or the punch leaves the byte
 completed_if : (busy : Bool) (o x : Transmitter) → x.byte ≡ o.byte → (if busy then x else o).byte ≡ o.byte

@@ -1,13 +1,13 @@
 -- The completion of the disk: word by word.
-use Rattle.std.proofs.Common.{◌≡◌, ◌∙◌, ℕ, zero, suc, ◌+◌, ◌-◌, ◌<◌, ◌≤◌, ◌==◌, ◌&&◌, ◌⊎◌, inl, inr, Bool, true, false, List, [], ◌∷◌, Option, Some, None, refl, ap, sym, subst, arith, length, get_or, slice_index, slice_set, nat_le, nat_lt, if◌then◌else◌, length-set, get_or-set_same, get_or-set_other}
+use Rattle.std.proofs.Common.{◌≡◌, ◌∙◌, ℕ, zero, suc, ◌+◌, ◌-◌, ◌==◌, ◌&&◌, inl, inr, Bool, true, false, List, [], ◌∷◌, Option, Some, None, refl, ap, sym, subst, length, get_or, slice_index, slice_set, nat_le, nat_lt, if◌then◌else◌, length-set, get_or-set_same, get_or-set_other}
 use Rattle.std.proofs.lemmas.Bool.{cases_lt, eqb-true, eqb-false}
-use Rattle.std.proofs.lemmas.List.{get_or_past, set_past}
+use Rattle.std.proofs.lemmas.List.{get_or_past}
 use Rattle.pdp_device.specs.Operation.{is_under_way}
 use Rattle.pdp_store.specs.Parts.{words_of_drive}
 use Rattle.pdp_store.specs.declared.Stamp.{Stamp}
 use Rattle.pdp_rk11.specs.Handbook.Completion.{DiskWorld, disk_world, drive_of, lists_after, refusal, rk_completed, rk_transferred, run_function, run_unless_refused, transfer_of, world_finished}
 use Rattle.pdp_rk11.specs.Handbook.Geometry.{drive_in}
-use Rattle.pdp_rk11.specs.Handbook.Transfer.{core_after_read, core_word, disk_word, disk_written, moved_to_core, moved_to_disk, rest_of_sector}
+use Rattle.pdp_rk11.specs.Handbook.Transfer.{core_word, disk_word, disk_written, moved_to_disk, rest_of_sector}
 use Rattle.pdp_rk11.specs.Laws.{transfer_in}
 use Rattle.pdp_rk11.specs.Moves.{item_after, moved_items, moved_to_one}
 use Rattle.pdp_rk11.specs.declared.failure.Failure.{Failure}
@@ -15,10 +15,10 @@ use Rattle.pdp_rk11.specs.declared.function.Function.{Function}
 use Rattle.pdp_rk11.specs.declared.function.Function.TheVariants.{ControlReset, Write, Read, WriteCheck, Seek, ReadCheck, DriveReset, WriteLock}
 use Rattle.pdp_rk11.specs.declared.rk.Rk.{Rk}
 use Rattle.pdp_rk11.specs.declared.transfer.Transfer.{Transfer}
-use Rattle.pdp_rk11.proofs.Moves.{get_or-moved, length-moved, length-moved_to_one}
+use Rattle.pdp_rk11.proofs.Moves.{get_or-moved, length-moved}
 use Rattle.pdp_made.specs.Cells.{Half, byte_in, Data, DataCell, CoreByte, DriveByte, RegisterByte, CodeNow, Buffer, Keyboard, Printer, Reader, Punch, Switches, TapeByte, ValueByte, SourceByte, ResultByte, StatusByte, CodeDue, CodeSaved, EachSame, Same}
 use Rattle.pdp_made.proofs.Registers.{set_tells}
-use Rattle.pdp_made_run.specs.DiskRows.{core_moved, drive_written, item_after_all, made_by_function, made_by_completion, made_unless_refused}
+use Rattle.pdp_made_run.specs.DiskRows.{drive_written, item_after_all, made_by_function, made_by_completion, made_unless_refused}
 
 -- What moves leave, in two lists of one length
 module _ (d e : Data) (half : Half) where

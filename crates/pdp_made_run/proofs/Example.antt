@@ -1,7 +1,6 @@
 -- MOV @#177570,R0, worked out.
-use Rattle.std.proofs.Common.{◌≡◌, ℕ, List, [], ◌∷◌, refl}
+use Rattle.std.proofs.Common.{◌≡◌, ℕ, [], ◌∷◌, refl}
 use Rattle.pdp_decode.specs.Table.{instr_of_word, double_operands, control, branches, single_operands, register_operands, high_branches, traps, byte_single_operands, high_double_operands}
-use Rattle.pdp_device.specs.Operation.{is_due}
 use Rattle.pdp_kt11.specs.Handbook.Translation.{translate, mapped_translation}
 use Rattle.pdp_kt11.specs.Handbook.Place.{unmapped_address}
 use Rattle.pdp_kt11.specs.Handbook.Kt.{kt_at_power_up, kt_fetched, page_at}
@@ -26,7 +25,7 @@ use Rattle.pdp_made.specs.CourseRows.{GoAlong, made_along, follow_rows}
 use Rattle.pdp_made.specs.PhaseRows.{GoTheSameWay, made_through}
 use Rattle.pdp_made_run.specs.BeginningRows.{EventsAlike, before_printer, before_punch, before_reader, made_by_events, made_in_beginning}
 use Rattle.pdp_made_run.specs.Example.{keeps_switches, switches_set_to}
-use Rattle.pdp_made_run.specs.Origins.{OfEvent, event_data, with_event_data}
+use Rattle.pdp_made_run.specs.Origins.{OfEvent}
 use Rattle.pdp_made_run.specs.RunRows.{RunsAlike, before_turn, made_before_turn}
 use Rattle.pdp_made_run.specs.TurnRows.{TurnsAlike, made_in_turn}
 

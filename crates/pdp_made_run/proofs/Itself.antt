@@ -8,7 +8,7 @@ use Rattle.pdp_operand.specs.Phases.World.{World}
 use Rattle.pdp_cpu.specs.Handbook.Turn.{at_turn}
 use Rattle.pdp_made.specs.Cells.{no_saved_codes}
 use Rattle.pdp_made.proofs.Courses.{along_itself}
-use Rattle.pdp_made_run.specs.BeginningRows.{BeginAlike, BusesAlike, EventsAlike}
+use Rattle.pdp_made_run.specs.BeginningRows.{BusesAlike, EventsAlike}
 use Rattle.pdp_made_run.specs.Origins.{Events, event_data, with_event_data}
 use Rattle.pdp_made_run.specs.RunRows.{RunsAlike, before_turn}
 use Rattle.pdp_made_run.specs.TurnRows.{TurnsAlike, rows_of_turn}

@@ -1,7 +1,7 @@
 -- Lists of origins, one step after the other.
-use Rattle.std.proofs.Common.{◌≡◌, ℕ, List, [], ◌∷◌, ◌++◌, flat_map, map}
+use Rattle.std.proofs.Common.{List, [], ◌∷◌, ◌++◌, flat_map, map}
 use Rattle.pdp_made.specs.Cells.{Data, DataCell, EachSame, Same}
-use Rattle.pdp_made_run.specs.Origins.{EachOrigin, Events, Held, OfEvent, Origin, SameOrigin, back_through}
+use Rattle.pdp_made_run.specs.Origins.{EachOrigin, Events, Held, OfEvent, Origin, back_through}
 
 module _ (other given : Events) where
   -- a cell is the same after a step, if its origins are the same before

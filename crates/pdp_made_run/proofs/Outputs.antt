@@ -1,5 +1,5 @@
 -- What comes out of the printer and the punch.
-use Rattle.std.proofs.Common.{◌≡◌, ◌∙◌, ◌++◌, ℕ, suc, Bool, true, false, List, [], ◌∷◌, Some, None, option_to_list, refl, ap, sym, subst, if◌then◌else◌}
+use Rattle.std.proofs.Common.{◌≡◌, ◌∙◌, ◌++◌, ℕ, Bool, true, false, List, [], ◌∷◌, Some, None, option_to_list, refl, ap, sym, subst, if◌then◌else◌}
 use Rattle.pdp_device.specs.Operation.{is_due, is_under_way}
 use Rattle.pdp_console.specs.Kl.{kl_printed}
 use Rattle.pdp_tape.specs.Pc11.{pc11_punched}

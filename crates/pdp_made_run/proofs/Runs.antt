@@ -1,8 +1,5 @@
 -- A run: turn by turn.
-use Rattle.std.proofs.Common.{◌≡◌, ℕ, zero, suc, List, [], ◌∷◌}
-use Rattle.pdp_operand.specs.Phases.World.{World}
-use Rattle.pdp_made.specs.Cells.{DataCell, Same}
-use Rattle.pdp_made_run.specs.Origins.{EachOrigin, Events}
+use Rattle.std.proofs.Common.{zero, suc}
 use Rattle.pdp_made_run.specs.RunRows.{RunsAlike, RunsTell, before_turn, made_before_turn}
 use Rattle.pdp_made_run.specs.TurnRows.{data_in, made_in_turn}
 use Rattle.pdp_made_run.proofs.Lists.{each_origin}

@@ -1,14 +1,13 @@
 -- A turn: its beginning, and then the course of its act.
-use Rattle.std.proofs.Common.{◌≡◌, ◌∙◌, ℕ, Bool, true, false, List, [], ◌∷◌, flat_map, Result, Ok, Err, refl, ap, sym, subst}
-use Rattle.pdp_action.specs.declared.trap.Trap.{Trap}
+use Rattle.std.proofs.Common.{◌≡◌, ◌∙◌, ℕ, Bool, true, false, Result, Ok, Err, refl, ap, sym, subst}
 use Rattle.pdp_word.specs.declared.codes.Codes.{Codes}
 use Rattle.pdp_store.specs.CycleLogs.{KeptCycles}
 use Rattle.pdp_io_page.specs.Handbook.Source.{chosen_source, io_page_served, requests, vector_of}
 use Rattle.pdp_io_page.specs.declared.source.Source.{Source}
 use Rattle.pdp_io_page.specs.declared.source.Source.TheVariants as source
 use Rattle.pdp_operand.specs.Handbook.Processor.{register_of}
-use Rattle.pdp_operand.specs.Phases.Course.{Course, follow, go_on, caught_in}
-use Rattle.pdp_operand.specs.Phases.Phase.{Inner, Latch, Phase, State, Stop, inner_of, run}
+use Rattle.pdp_operand.specs.Phases.Course.{follow, go_on}
+use Rattle.pdp_operand.specs.Phases.Phase.{Inner, Phase, State, Stop, inner_of}
 use Rattle.pdp_operand.specs.Phases.Plan.{one, run_plan}
 use Rattle.pdp_operand.specs.Phases.World.{World}
 use Rattle.pdp_instruction.specs.Handbook.TrapSequence.{saved_context_of, sequence}
@@ -22,8 +21,8 @@ use Rattle.pdp_made.specs.OperandRows.{keeps_data}
 use Rattle.pdp_made.specs.PhaseRows.{IsSoundRow}
 use Rattle.pdp_made.proofs.Courses.{courses, instruction_followed, instruction_sound, sequence_followed, sequence_sound}
 use Rattle.pdp_made.proofs.Frames.{itself_tells, sound_by}
-use Rattle.pdp_made_run.specs.Origins.{EachOrigin, Events}
-use Rattle.pdp_made_run.specs.TurnRows.{TurnsAlike, TurnsTell, data_in, made_in_turn, rows_of_due, serving_rows}
+use Rattle.pdp_made_run.specs.Origins.{Events}
+use Rattle.pdp_made_run.specs.TurnRows.{TurnsTell, data_in, made_in_turn, rows_of_due, serving_rows}
 use Rattle.pdp_made_run.specs.BeginningRows.{made_in_beginning}
 use Rattle.pdp_made_run.proofs.BeginningSteps.{beginning_tells}
 use Rattle.pdp_made_run.proofs.Lists.{each_held}

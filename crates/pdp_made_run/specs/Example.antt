@@ -1,5 +1,5 @@
 -- A run as an example. No rule of the handbook is here.
-use Rattle.std.specs.Prelude.{ℕ, zero, suc, List, [], ◌∷◌}
+use Rattle.std.specs.Prelude.{ℕ, zero, suc, [], ◌∷◌}
 use Rattle.pdp_io_page.specs.Handbook.Delays.{standard_delays}
 use Rattle.pdp_unibus.specs.declared.event.Event.TheVariants as event
 use Rattle.pdp_operand.specs.Phases.World.{World}

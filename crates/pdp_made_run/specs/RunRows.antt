@@ -1,6 +1,6 @@
 -- What a run is made of: its turns, back to the events and to what the machine held as of power-up.
 -- No rule of the handbook is here.
-use Rattle.std.specs.Prelude.{ℕ, zero, suc, ◌≡◌, List, [], ◌∷◌, flat_map}
+use Rattle.std.specs.Prelude.{ℕ, zero, suc, ◌≡◌, List, flat_map}
 use Rattle.pdp_operand.specs.Phases.World.{World}
 use Rattle.pdp_cpu.specs.Handbook.Turn.{one_turn, printed_in, punched_in}
 use Rattle.pdp_made.specs.Cells.{DataCell, Buffer, Printer, Punch, Same}

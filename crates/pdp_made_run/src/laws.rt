@@ -34,8 +34,8 @@ pub fn outputs_are_made_of_buffers()
     ensures punched { PunchesTell }
 {}
 
-/// A law and no code: each turn, and each run, goes the same way as itself. So what the laws of both
-/// require is met at least there.
+/// A law and no code: each turn, and each run, goes the same way as itself. So what the laws of
+/// both require is met at least there.
 pub fn each_run_goes_the_same_way_as_itself()
     ensures turn { (t : ℕ) (events : List MachineEvent) (w : World)
         → TurnsAlike t events events w w }
