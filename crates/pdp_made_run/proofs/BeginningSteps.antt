@@ -61,7 +61,7 @@ word_kept event.DiskDone p = refl
 word_kept (event.Switches word) p = refl
 word_kept event.Continue p = refl
 
-words_kept : (es : List Event) (p : Processor) → (processor_after_events es p).words ≡ p.words
+pub words_kept : (es : List Event) (p : Processor) → (processor_after_events es p).words ≡ p.words
 words_kept [] p = refl
 words_kept (e ∷ es) p = words_kept es (processor_after e p) ∙ word_kept e p
 

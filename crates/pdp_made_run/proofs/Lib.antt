@@ -6,3 +6,4 @@ pub mod Runs
 pub mod Outputs
 pub mod Itself
 pub mod Example
+pub mod AlikeBeginnings

@@ -1,9 +1,11 @@
 -- Rows of the beginning of a turn: its events, a tick of the clock, and the operations that are due
 -- [P].
-use Rattle.std.specs.Prelude.{ℕ, suc, ◌≡◌, Bool, List, [], ◌∷◌, Option, Some, None, length, map}
+use Rattle.std.specs.Prelude.{ℕ, suc, ◌≡◌, Bool, false, List, [], ◌∷◌}
+use Rattle.std.specs.Prelude.{Option, Some, None, length, map}
 use Rattle.std.specs.Prelude.{flat_map, if◌then◌else◌}
 use Rattle.pdp_device.specs.Operation.{is_due}
 use Rattle.pdp_tape.specs.Reader.{takes_byte}
+use Rattle.pdp_rk11.specs.Handbook.Completion.{is_write_check}
 use Rattle.pdp_store.specs.Parts.{words_of_drive}
 use Rattle.pdp_unibus.specs.Handbook.Beginning.{Progress, after_event, after_events, at_start}
 use Rattle.pdp_unibus.specs.Handbook.Beginning.{before_disk, in_turn, printer_due, reader_due}
@@ -112,3 +114,23 @@ pub record BeginAlike (t : ℕ) (es fs : List Event) (w v : World) : Type 0 wher
   pub punch : BusesAlike (before_punch t es w.bus).bus (before_punch t fs v.bus).bus
   pub disk : BusesAlike (before_disk t es w.bus).bus (before_disk t fs v.bus).bus
   pub act : WorldsAlike (beginning t es w) (beginning t fs v)
+
+-- The events are the same but for their data.
+abbrev pub AreSameEvents : List Event → List Event → Type 0
+AreSameEvents [] [] = Unit {0}
+AreSameEvents (e ∷ es) (f ∷ fs) = (f ≡ with_event_data (event_data f) e) × AreSameEvents es fs
+AreSameEvents [] (f ∷ fs) = ⊥
+AreSameEvents (e ∷ es) [] = ⊥
+
+-- Two buses between two turns: alike except for data, with tapes of one length, and the function
+-- that was written last is no write check, whose result is no data.
+pub record AlikeBetween (b d : BusWorld) : Type 0 where
+  pub buses : BusesAlike b d
+  pub tape_size : length d.tape ≡ length b.tape
+  pub no_write_check : is_write_check b.io_page.disk.function ≡ false
+
+-- The law of beginnings: two worlds are alike between two turns, and the events are the same but
+-- for their data. Then the beginning of the turn goes the same way in both.
+abbrev pub BeginningsGoAlike : Type 0
+BeginningsGoAlike = (t : ℕ) (es fs : List Event) (w v : World) → WorldsAlike w v
+    → AlikeBetween w.bus v.bus → AreSameEvents es fs → BeginAlike t es fs w v

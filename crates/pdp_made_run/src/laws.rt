@@ -4,6 +4,7 @@ ghost use Rattle.std.specs.Prelude.{◌≡◌, ℕ, List, [], ◌∷◌};
 ghost use Rattle.pdp_unibus.specs.declared.event.Event.{Event as MachineEvent};
 ghost use Rattle.pdp_operand.specs.Phases.World.{World};
 ghost use Rattle.pdp_made.specs.Cells.{CoreByte, High, Low};
+ghost use Rattle.pdp_made_run.specs.BeginningRows.{BeginningsGoAlike};
 ghost use Rattle.pdp_made_run.specs.Example.{keeps_switches, switches_set_to};
 ghost use Rattle.pdp_made_run.specs.Origins.{Events, OfEvent};
 ghost use Rattle.pdp_made_run.specs.RunRows.{PrintsTell, PunchesTell, RunsAlike, RunsTell};
@@ -32,6 +33,13 @@ pub fn rows_tell_what_runs_make()
 pub fn outputs_are_made_of_buffers()
     ensures printed { PrintsTell }
     ensures punched { PunchesTell }
+{}
+
+/// A law and no code: two worlds are alike except for data between two turns, with drives and tapes
+/// of the same sizes, and the events of the next turn are the same but for their data. If the
+/// disk's last function is no write check, the beginning of the turn goes the same way in both.
+pub fn beginnings_go_the_same_way()
+    ensures { BeginningsGoAlike }
 {}
 
 /// A law and no code: each turn, and each run, goes the same way as itself. So what the laws of
