@@ -15,7 +15,7 @@ use Rattle.pdp_instruction.specs.Handbook.Action.{plan_of}
 use Rattle.pdp_instruction.specs.Handbook.Instruction.{fetch_instruction, instruction, instruction_course, note_trace, trace_note_course}
 use Rattle.pdp_instruction.specs.Handbook.TrapSequence.{after_trap, give_up, push_plan, red, red_plan, saved_context_of, sequence, trap_course, trap_plan, trap_vector}
 use Rattle.pdp_instruction.specs.declared.saved_context.SavedContext.{SavedContext}
-use Rattle.pdp_made.specs.Cells.{AreAlike, Data, DataCell, CoreByte, DriveByte, RegisterByte, CodeNow, Buffer, ValueByte, SourceByte, ResultByte, StatusByte, CodeDue, CodeSaved, EachSame, Same, WorldsAlike, data_at, data_left, data_of, no_saved_codes, with_data}
+use Rattle.pdp_made.specs.Cells.{AreAlike, Data, DataCell, CoreByte, DriveByte, RegisterByte, CodeNow, Buffer, ValueByte, SourceByte, ResultByte, StatusByte, CodeDue, CodeSaved, TapeByte, EachSame, Same, WorldsAlike, data_at, data_left, data_of, no_saved_codes, with_data}
 use Rattle.pdp_made.specs.CourseRows.{CourseRows, Along, CoursesTell, Finished, GoAlong, InstructionsTell, IsSoundCourse, NextAlike, RowsFollowInstructions, RowsFollowSequences, Saving, SequencesTell, after_trap_rows, codes_at, follow_rows, instruction_course_rows, instruction_rows, made_after, made_along, of_lost_plan, of_saved_codes, red_course_rows, sequence_rows, trap_course_rows}
 use Rattle.pdp_made.specs.InstructionRows.{rows_of_action}
 use Rattle.pdp_made.specs.OperandRows.{keeps_data}
@@ -38,6 +38,7 @@ left_tells d e codes (ResultByte half) all = all.0
 left_tells d e codes (StatusByte half) all = all.0
 left_tells d e codes (CodeDue code) all = all.0
 left_tells d e codes (CodeSaved code) all = refl
+left_tells d e codes (TapeByte k) all = all.0
 
 -- what is saved becomes the codes of now
 saved_tells : (d e : Data) → CellsTell of_saved_codes d e (record d { saved = d.bus.codes }) (record e { saved = e.bus.codes })
@@ -52,6 +53,7 @@ saved_tells d e (ResultByte half) all = all.0
 saved_tells d e (StatusByte half) all = all.0
 saved_tells d e (CodeDue code) all = all.0
 saved_tells d e (CodeSaved code) all = all.0
+saved_tells d e (TapeByte k) all = all.0
 
 -- at a trap the latch is the one from before the plan
 module _ (first : DataCell → List DataCell) (saved other : Codes) (s u : State) (stop end : Stop)
@@ -63,6 +65,7 @@ module _ (first : DataCell → List DataCell) (saved other : Codes) (s u : State
   lost_plan_tells (CodeNow code) all = tells (CodeNow code) all
   lost_plan_tells (Buffer buffer) all = tells (Buffer buffer) all
   lost_plan_tells (CodeSaved code) all = tells (CodeSaved code) all
+  lost_plan_tells (TapeByte k) all = tells (TapeByte k) all
   lost_plan_tells (ValueByte half) all = all.0
   lost_plan_tells (SourceByte half) all = all.0
   lost_plan_tells (ResultByte half) all = all.0

@@ -28,7 +28,7 @@ use Rattle.pdp_instruction.specs.Handbook.Control.{is_user, reset}
 use Rattle.pdp_instruction.specs.Handbook.Extended.{codes_of, divide, long_in, multiply, named_pair, pair_with_words, shift, shift_pair, with_quotient}
 use Rattle.pdp_instruction.specs.Handbook.ReturnFromTrap.{keep_counter, return_from_trap, returned_status, returned_to_user}
 use Rattle.pdp_instruction.specs.declared.pair.Pair.{Pair}
-use Rattle.pdp_made.specs.Cells.{byte_in, Data, DataCell, CoreByte, DriveByte, RegisterByte, CodeNow, Buffer, ValueByte, SourceByte, ResultByte, StatusByte, CodeDue, CodeSaved, EachSame, Low, SameShape, data_of, flag_in, processor_with, with_data}
+use Rattle.pdp_made.specs.Cells.{byte_in, Data, DataCell, CoreByte, DriveByte, RegisterByte, CodeNow, Buffer, ValueByte, SourceByte, ResultByte, StatusByte, CodeDue, CodeSaved, TapeByte, EachSame, Low, SameShape, data_of, flag_in, processor_with, with_data}
 use Rattle.pdp_made.specs.EffectRows.{value_halves}
 use Rattle.pdp_made.specs.InstructionRows.{divide_row, due_changed, multiply_row, pair_cells, pair_changed, return_from_trap_row, shift_cells, shift_pair_cells, shift_pair_row, shift_row, with_operand_cells}
 use Rattle.pdp_made.specs.OperandRows.{keeps_data}
@@ -95,6 +95,7 @@ module _ (d e : Data) (pair : Pair) (from : List DataCell) where
   due_is x y codes ws vs tells (StatusByte half) all = all.0
   due_is x y codes ws vs tells (CodeDue code) all = ap (flag_in code) (codes all)
   due_is x y codes ws vs tells (CodeSaved code) all = all.0
+  due_is x y codes ws vs tells (TapeByte k) all = all.0
 
   pair_set : (p q : Processor) (first second one other : ℕ) → length q.words ≡ length p.words → WordsTell d e of_itself q.words p.words
       → (EachSame d e from → first ≡ one) → (EachSame d e from → second ≡ other)
@@ -261,6 +262,7 @@ module _ (d e : Data) (id : RegisterId) (from : List DataCell) where
   due_of_one x y codes ws vs tells (StatusByte half) all = all.0
   due_of_one x y codes ws vs tells (CodeDue code) all = ap (flag_in code) (codes all)
   due_of_one x y codes ws vs tells (CodeSaved code) all = all.0
+  due_of_one x y codes ws vs tells (TapeByte k) all = all.0
 
 pub shifts : (r : ℕ) → IsSoundRow (shift_row r)
 unfolding shift

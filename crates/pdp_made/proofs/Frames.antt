@@ -6,7 +6,7 @@ use Rattle.pdp_operand.specs.Handbook.Operand.{with_stack_trap_if}
 use Rattle.pdp_operand.specs.Phases.Phase.{State, step}
 use Rattle.pdp_operand.specs.declared.processor.Processor.{Processor}
 use Rattle.pdp_operand.specs.declared.processor.RegisterId.{RegisterId}
-use Rattle.pdp_made.specs.Cells.{BusData, Data, DataCell, CoreByte, DriveByte, RegisterByte, CodeNow, Buffer, ConditionCode, DeviceBuffer, Keyboard, Printer, Reader, Punch, Switches, flag_in, held_in, ValueByte, SourceByte, ResultByte, StatusByte, CodeDue, CodeSaved, EachSame, SameShape, data_of, with_data}
+use Rattle.pdp_made.specs.Cells.{BusData, Data, DataCell, CoreByte, DriveByte, RegisterByte, CodeNow, Buffer, ConditionCode, DeviceBuffer, Keyboard, Printer, Reader, Punch, Switches, flag_in, held_in, ValueByte, SourceByte, ResultByte, StatusByte, CodeDue, CodeSaved, TapeByte, EachSame, SameShape, data_of, with_data}
 use Rattle.pdp_made.specs.EffectRows.{EffectCells, value_halves}
 use Rattle.pdp_made.specs.InstructionRows.{both_changed, codes_changed, effect_changed, result_changed, source_changed}
 use Rattle.pdp_made.specs.OperandRows.{value_changed}
@@ -48,6 +48,7 @@ lost_tells d e (ResultByte half) all = refl
 lost_tells d e (StatusByte half) all = refl
 lost_tells d e (CodeDue code) all = refl
 lost_tells d e (CodeSaved code) all = all.0
+lost_tells d e (TapeByte k) all = all.0
 
 -- the same bus and the same registers, as equations say
 pub on_same : (made : DataCell → List DataCell) (d e u t : Data) (x y : BusData) (ws vs : List ℕ) → x ≡ u.bus → y ≡ t.bus → ws ≡ u.words → vs ≡ t.words
@@ -78,6 +79,7 @@ module _ (d e : Data) where
   words_changed id from ws vs tells (StatusByte half) all = all.0
   words_changed id from ws vs tells (CodeDue code) all = all.0
   words_changed id from ws vs tells (CodeSaved code) all = all.0
+  words_changed id from ws vs tells (TapeByte k) all = all.0
 
   pub value_is : (from : Halves) (b a : ℕ) → HalvesTell d e from b a → CellsTell (value_changed from) d e (record d { value = b }) (record e { value = a })
   value_is from b a tells (CoreByte k half) all = all.0
@@ -91,6 +93,7 @@ module _ (d e : Data) where
   value_is from b a tells (StatusByte half) all = all.0
   value_is from b a tells (CodeDue code) all = all.0
   value_is from b a tells (CodeSaved code) all = all.0
+  value_is from b a tells (TapeByte k) all = all.0
 
   pub source_is : (b a : ℕ) → HalvesTell d e value_halves b a → CellsTell source_changed d e (record d { source = b }) (record e { source = a })
   source_is b a tells (CoreByte k half) all = all.0
@@ -104,6 +107,7 @@ module _ (d e : Data) where
   source_is b a tells (StatusByte half) all = all.0
   source_is b a tells (CodeDue code) all = all.0
   source_is b a tells (CodeSaved code) all = all.0
+  source_is b a tells (TapeByte k) all = all.0
 
   pub both_are : (from : Halves) (b a : ℕ) → HalvesTell d e from b a
       → CellsTell (both_changed from) d e (record d { value = b; source = b }) (record e { value = a; source = a })
@@ -118,6 +122,7 @@ module _ (d e : Data) where
   both_are from b a tells (StatusByte half) all = all.0
   both_are from b a tells (CodeDue code) all = all.0
   both_are from b a tells (CodeSaved code) all = all.0
+  both_are from b a tells (TapeByte k) all = all.0
 
   pub result_is : (from : Halves) (b a : ℕ) → HalvesTell d e from b a → CellsTell (result_changed from) d e (record d { result = b }) (record e { result = a })
   result_is from b a tells (CoreByte k half) all = all.0
@@ -131,6 +136,7 @@ module _ (d e : Data) where
   result_is from b a tells (StatusByte half) all = all.0
   result_is from b a tells (CodeDue code) all = all.0
   result_is from b a tells (CodeSaved code) all = all.0
+  result_is from b a tells (TapeByte k) all = all.0
 
   pub status_is : (from : Halves) (b a : ℕ) → HalvesTell d e from b a → CellsTell (status_changed from) d e (record d { status = b }) (record e { status = a })
   status_is from b a tells (CoreByte k half) all = all.0
@@ -144,6 +150,7 @@ module _ (d e : Data) where
   status_is from b a tells (StatusByte half) all = tells half all
   status_is from b a tells (CodeDue code) all = all.0
   status_is from b a tells (CodeSaved code) all = all.0
+  status_is from b a tells (TapeByte k) all = all.0
 
   -- each code is made of these
   abbrev pub CodesTell : (ConditionCode → List DataCell) → Codes → Codes → Type 0
@@ -169,6 +176,7 @@ module _ (d e : Data) where
   codes_are from x y tells (StatusByte half) all = all.0
   codes_are from x y tells (CodeDue code) all = all.0
   codes_are from x y tells (CodeSaved code) all = all.0
+  codes_are from x y tells (TapeByte k) all = all.0
 
   pub effect_is : (cells : EffectCells) (b a : ℕ) (x y : Codes) → HalvesTell d e cells.value b a → CodesTell cells.codes x y
       → CellsTell (effect_changed cells) d e (record d { result = b; due = Some x }) (record e { result = a; due = Some y })
@@ -183,3 +191,4 @@ module _ (d e : Data) where
   effect_is cells b a x y value codes (StatusByte half) all = all.0
   effect_is cells b a x y value codes (CodeDue code) all = codes code all
   effect_is cells b a x y value codes (CodeSaved code) all = all.0
+  effect_is cells b a x y value codes (TapeByte k) all = all.0

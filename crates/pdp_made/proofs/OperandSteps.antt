@@ -23,7 +23,7 @@ use Rattle.pdp_operand.specs.declared.place.Place.TheVariants.{Reg, Mem}
 use Rattle.pdp_operand.specs.declared.processor.Processor.{Processor}
 use Rattle.pdp_operand.specs.declared.processor.RegisterId.{RegisterId}
 use Rattle.pdp_operand.specs.declared.processor.RegisterId.TheVariants.{ProgramCounter}
-use Rattle.pdp_made.specs.Cells.{BusData, Data, DataCell, CoreByte, DriveByte, RegisterByte, CodeNow, Buffer, ValueByte, SourceByte, ResultByte, StatusByte, CodeDue, CodeSaved, ConditionCode, SameShape, data_of, data_on, flag_due, processor_with, with_data}
+use Rattle.pdp_made.specs.Cells.{BusData, Data, DataCell, CoreByte, DriveByte, RegisterByte, CodeNow, Buffer, ValueByte, SourceByte, ResultByte, StatusByte, CodeDue, CodeSaved, TapeByte, ConditionCode, SameShape, data_of, data_on, flag_due, processor_with, with_data}
 use Rattle.pdp_made.specs.EffectRows.{going_up}
 use Rattle.pdp_made.specs.OperandRows.{changed_by_write, find_rows, grow_row, halves_of_operand, halves_of_result, keeps_data, lower_row, read_before_write_row, read_row, register_stepped, value_changed, write_row}
 use Rattle.pdp_made.specs.PhaseRows.{AreSoundRows, IsSoundRow, CellsTell, TellsEnds, of_itself}
@@ -161,6 +161,7 @@ module _ (d e : Data) (size : Size) (mode : Mode) (address : ℕ) (b : BusWorld)
   bus_changed (StatusByte half) all = all.0
   bus_changed (CodeDue code) all = due_tells code all.0
   bus_changed (CodeSaved code) all = all.0
+  bus_changed (TapeByte k) all = tells.tape k all
 
 left_if : (status : Bool) (x y : Option Codes) (code : ConditionCode) → flag_due code x ≡ flag_due code y
     → flag_due code (if status then None else x) ≡ flag_due code (if status then None else y)

@@ -18,7 +18,7 @@ use Rattle.pdp_operand.specs.declared.processor.RegisterId.TheVariants.{KernelSt
 use Rattle.pdp_instruction.specs.Handbook.Instruction.{fetch_instruction, note_trace, traces, with_trace_trap_if}
 use Rattle.pdp_instruction.specs.Handbook.TrapSequence.{bare_stack, enter, enter_red, give_up, new_mode, put_word, save, vector_counter, vector_status}
 use Rattle.pdp_instruction.specs.declared.saved_context.SavedContext.{SavedContext}
-use Rattle.pdp_made.specs.Cells.{byte_in, BusData, Data, CoreByte, DriveByte, RegisterByte, CodeNow, Buffer, ValueByte, SourceByte, ResultByte, StatusByte, CodeDue, CodeSaved, DeviceBuffer, Keyboard, Printer, Reader, Punch, Switches, EachSame, Half, Low, SameShape, data_of, data_on, flag_in, held_in, processor_with, with_data}
+use Rattle.pdp_made.specs.Cells.{byte_in, BusData, Data, CoreByte, DriveByte, RegisterByte, CodeNow, Buffer, ValueByte, SourceByte, ResultByte, StatusByte, CodeDue, CodeSaved, TapeByte, DeviceBuffer, Keyboard, Printer, Reader, Punch, Switches, EachSame, Half, Low, SameShape, data_of, data_on, flag_in, held_in, processor_with, with_data}
 use Rattle.pdp_made.specs.OperandRows.{keeps_data, lower_row}
 use Rattle.pdp_made.specs.PhaseRows.{AreSoundRows, IsSoundRow, CellsTell, TellsEnds, of_itself}
 use Rattle.pdp_made.specs.ReferenceRows.{Halves, changed_by_reference, changed_if_placed, place_of_write, halves_referred, of_nothing, register_changed}
@@ -136,6 +136,7 @@ module _ (d e : Data) where
   red_entered x y ws vs codes words (StatusByte half) all = all.0
   red_entered x y ws vs codes words (CodeDue code) all = all.0
   red_entered x y ws vs codes words (CodeSaved code) all = all.0
+  red_entered x y ws vs codes words (TapeByte k) all = all.0
 
 counter_size : (q p : Processor) (counter : ℕ) → length q.words ≡ length p.words → length (with_register q ProgramCounter counter).words ≡ length (with_register p ProgramCounter counter).words
 unfolding with_register

@@ -1,5 +1,5 @@
 -- References that write: what they change is made of what is written.
-use Rattle.std.proofs.Common.{◌≡◌, ◌∙◌, ℕ, ◌+◌, ◌-◌, ◌*◌, ◌%◌, ◌==◌, Bool, true, false, List, [], ◌∷◌, length, slice_index, slice_set, get_or, Result, Ok, Err, refl, ap₂, sym, true≢false, if◌then◌else◌}
+use Rattle.std.proofs.Common.{◌≡◌, ◌∙◌, ℕ, ◌+◌, ◌-◌, ◌*◌, ◌%◌, ◌==◌, Bool, true, false, List, [], ◌∷◌, length, slice_get, slice_index, slice_set, get_or, Result, Ok, Err, refl, ap₂, sym, true≢false, if◌then◌else◌}
 use Rattle.pdp_word.specs.declared.size.Size.{Size}
 use Rattle.pdp_word.specs.declared.size.Size.TheVariants.{Word, Byte}
 use Rattle.pdp_device.specs.Operation.{is_under_way}
@@ -22,7 +22,7 @@ use Rattle.pdp_unibus.specs.Handbook.Cycle.{Slave, Core, Device, Nobody, slave_a
 use Rattle.pdp_action.specs.declared.trap.Trap.{Trap}
 use Rattle.pdp_operand.specs.Handbook.Reference.{Kind, WriteWord, WriteByte, Reference, is_odd, perform, reference_to, translation}
 use Rattle.pdp_operand.proofs.Shape.{reply_by, shape_at, shape_by, shape_if, shape_of, perform_is}
-use Rattle.pdp_made.specs.Cells.{Half, Low, High, byte_in, BusData, ConditionCode, flag_in, Data, DataCell, CoreByte, DriveByte, CodeNow, Buffer, DeviceBuffer, Keyboard, Printer, Reader, Punch, Switches, held_in, EachSame, bus_with, data_on}
+use Rattle.pdp_made.specs.Cells.{Half, Low, High, byte_in, BusData, ConditionCode, flag_in, Data, DataCell, CoreByte, DriveByte, CodeNow, Buffer, TapeByte, DeviceBuffer, Keyboard, Printer, Reader, Punch, Switches, held_in, EachSame, bus_with, data_on}
 use Rattle.pdp_made.specs.ReferenceRows.{Halves, changed_if_placed, device_changed, halves_of_device, halves_put, of_each, place_of_write, slave_changed, with_byte_at}
 use Rattle.pdp_made.proofs.Halves.{HalvesTell, codes_tell, high_byte_tells, low_byte_tells, whole_tells}
 use Rattle.pdp_made.proofs.Readings.{device_tells}
@@ -37,6 +37,7 @@ put_kind Byte byte = WriteByte byte
 pub record BusTells (d e : Data) (made : DataCell → List DataCell) (x y : BusData) : Type 0 where
   pub core : (k : ℕ) (half : Half) → EachSame d e (made (CoreByte k half)) → byte_in half (slice_index x.core k) ≡ byte_in half (slice_index y.core k)
   pub drives : (n k : ℕ) (half : Half) → EachSame d e (DriveByte n k half ∷ []) → byte_in half (slice_index (get_or x.drives n []) k) ≡ byte_in half (slice_index (get_or y.drives n []) k)
+  pub tape : (k : ℕ) → EachSame d e (TapeByte k ∷ []) → slice_get x.tape k ≡ slice_get y.tape k
   pub codes : (code : ConditionCode) → EachSame d e (made (CodeNow code)) → flag_in code x.codes ≡ flag_in code y.codes
   pub buffers : (buffer : DeviceBuffer) → EachSame d e (made (Buffer buffer)) → held_in buffer x ≡ held_in buffer y
 
@@ -131,22 +132,22 @@ module _ (d : Data) (log : KeptCycles) (b : BusWorld) (others : Data) where
 
       pub word_tells : (r : Register) → WordTells r
       unfolding after_write status_written status_of_word
-      word_tells (register.Console PrinterBuffer) = record { core = λ k half all. all.0; drives = λ n k half all. all.0; codes = λ code all. all.0; buffers = printed }
-      word_tells (register.PaperTape PunchBuffer) = record { core = λ k half all. all.0; drives = λ n k half all. all.0; codes = λ code all. all.0; buffers = punched }
-      word_tells (register.PaperTape ReaderStatus) = record { core = λ k half all. all.0; drives = λ n k half all. all.0; codes = λ code all. all.0; buffers = begun }
-      word_tells register.ProgramStatus = record { core = λ k half all. all.0; drives = λ n k half all. all.0; codes = λ code all. codes_tell code other one (new Low all); buffers = coded }
-      word_tells (register.Console KeyboardStatus) = record { core = λ k half all. all.0; drives = λ n k half all. all.0; codes = λ code all. all.0; buffers = λ buffer all. all.0 }
-      word_tells (register.Console KeyboardBuffer) = record { core = λ k half all. all.0; drives = λ n k half all. all.0; codes = λ code all. all.0; buffers = λ buffer all. all.0 }
-      word_tells (register.Console PrinterStatus) = record { core = λ k half all. all.0; drives = λ n k half all. all.0; codes = λ code all. all.0; buffers = λ buffer all. all.0 }
-      word_tells register.Clock = record { core = λ k half all. all.0; drives = λ n k half all. all.0; codes = λ code all. all.0; buffers = λ buffer all. all.0 }
-      word_tells (register.PaperTape ReaderBuffer) = record { core = λ k half all. all.0; drives = λ n k half all. all.0; codes = λ code all. all.0; buffers = λ buffer all. all.0 }
-      word_tells (register.PaperTape PunchStatus) = record { core = λ k half all. all.0; drives = λ n k half all. all.0; codes = λ code all. all.0; buffers = λ buffer all. all.0 }
-      word_tells (register.Disk k) = record { core = λ k half all. all.0; drives = λ n k half all. all.0; codes = λ code all. all.0; buffers = λ buffer all. all.0 }
-      word_tells register.Switches = record { core = λ k half all. all.0; drives = λ n k half all. all.0; codes = λ code all. all.0; buffers = λ buffer all. all.0 }
-      word_tells (register.Mapping k) = record { core = λ k half all. all.0; drives = λ n k half all. all.0; codes = λ code all. all.0; buffers = λ buffer all. all.0 }
+      word_tells (register.Console PrinterBuffer) = record { core = λ k half all. all.0; drives = λ n k half all. all.0; tape = λ k all. all.0; codes = λ code all. all.0; buffers = printed }
+      word_tells (register.PaperTape PunchBuffer) = record { core = λ k half all. all.0; drives = λ n k half all. all.0; tape = λ k all. all.0; codes = λ code all. all.0; buffers = punched }
+      word_tells (register.PaperTape ReaderStatus) = record { core = λ k half all. all.0; drives = λ n k half all. all.0; tape = λ k all. all.0; codes = λ code all. all.0; buffers = begun }
+      word_tells register.ProgramStatus = record { core = λ k half all. all.0; drives = λ n k half all. all.0; tape = λ k all. all.0; codes = λ code all. codes_tell code other one (new Low all); buffers = coded }
+      word_tells (register.Console KeyboardStatus) = record { core = λ k half all. all.0; drives = λ n k half all. all.0; tape = λ k all. all.0; codes = λ code all. all.0; buffers = λ buffer all. all.0 }
+      word_tells (register.Console KeyboardBuffer) = record { core = λ k half all. all.0; drives = λ n k half all. all.0; tape = λ k all. all.0; codes = λ code all. all.0; buffers = λ buffer all. all.0 }
+      word_tells (register.Console PrinterStatus) = record { core = λ k half all. all.0; drives = λ n k half all. all.0; tape = λ k all. all.0; codes = λ code all. all.0; buffers = λ buffer all. all.0 }
+      word_tells register.Clock = record { core = λ k half all. all.0; drives = λ n k half all. all.0; tape = λ k all. all.0; codes = λ code all. all.0; buffers = λ buffer all. all.0 }
+      word_tells (register.PaperTape ReaderBuffer) = record { core = λ k half all. all.0; drives = λ n k half all. all.0; tape = λ k all. all.0; codes = λ code all. all.0; buffers = λ buffer all. all.0 }
+      word_tells (register.PaperTape PunchStatus) = record { core = λ k half all. all.0; drives = λ n k half all. all.0; tape = λ k all. all.0; codes = λ code all. all.0; buffers = λ buffer all. all.0 }
+      word_tells (register.Disk k) = record { core = λ k half all. all.0; drives = λ n k half all. all.0; tape = λ k all. all.0; codes = λ code all. all.0; buffers = λ buffer all. all.0 }
+      word_tells register.Switches = record { core = λ k half all. all.0; drives = λ n k half all. all.0; tape = λ k all. all.0; codes = λ code all. all.0; buffers = λ buffer all. all.0 }
+      word_tells (register.Mapping k) = record { core = λ k half all. all.0; drives = λ n k half all. all.0; tape = λ k all. all.0; codes = λ code all. all.0; buffers = λ buffer all. all.0 }
 
     abbrev pub page_kept : BusTells d here (λ c. c ∷ []) (data_on (record other_bus { io_page = page_of mapping other_bus })) (data_on (record b { io_page = page_of mapping b }))
-    page_kept = record { core = λ k half all. all.0; drives = λ n k half all. all.0; codes = λ code all. all.0; buffers = λ buffer all. all.0 }
+    page_kept = record { core = λ k half all. all.0; drives = λ n k half all. all.0; tape = λ k all. all.0; codes = λ code all. all.0; buffers = λ buffer all. all.0 }
 
     -- a byte is written to a register
     module _ (from : Halves) (one other : ℕ) (new : HalvesTell d here from other one) where
@@ -212,8 +213,8 @@ module _ (d : Data) (log : KeptCycles) (b : BusWorld) (others : Data) where
       printer_tells : ByteTells (register.Console PrinterBuffer)
       unfolding after_byte
       printer_tells = by_even (physical % 2 == 0) (device_changed Byte physical (register.Console PrinterBuffer) from) _ _ _ _
-          (λ is. record { core = λ k half all. all.0; drives = λ n k half all. all.0; codes = printer_codes; buffers = printer_buffers is })
-          (λ is. record { core = λ k half all. all.0; drives = λ n k half all. all.0; codes = λ code all. all.0; buffers = printer_kept is })
+          (λ is. record { core = λ k half all. all.0; drives = λ n k half all. all.0; tape = λ k all. all.0; codes = printer_codes; buffers = printer_buffers is })
+          (λ is. record { core = λ k half all. all.0; drives = λ n k half all. all.0; tape = λ k all. all.0; codes = λ code all. all.0; buffers = printer_kept is })
 
       punch_buffers : physical % 2 == 0 ≡ true → (buffer : DeviceBuffer) → EachSame d here (device_changed Byte physical (register.PaperTape PunchBuffer) from (Buffer buffer))
           → held_in buffer (data_on (record other_bus { io_page = after_write (register.PaperTape PunchBuffer) (byte_there (register.PaperTape PunchBuffer)) turn (page_of mapping other_bus) }))
@@ -241,8 +242,8 @@ module _ (d : Data) (log : KeptCycles) (b : BusWorld) (others : Data) where
       punch_tells : ByteTells (register.PaperTape PunchBuffer)
       unfolding after_byte
       punch_tells = by_even (physical % 2 == 0) (device_changed Byte physical (register.PaperTape PunchBuffer) from) _ _ _ _
-          (λ is. record { core = λ k half all. all.0; drives = λ n k half all. all.0; codes = punch_codes; buffers = punch_buffers is })
-          (λ is. record { core = λ k half all. all.0; drives = λ n k half all. all.0; codes = λ code all. all.0; buffers = punch_kept is })
+          (λ is. record { core = λ k half all. all.0; drives = λ n k half all. all.0; tape = λ k all. all.0; codes = punch_codes; buffers = punch_buffers is })
+          (λ is. record { core = λ k half all. all.0; drives = λ n k half all. all.0; tape = λ k all. all.0; codes = λ code all. all.0; buffers = punch_kept is })
 
       pub byte_tells : (r : Register) → ByteTells r
       unfolding after_byte
@@ -302,11 +303,11 @@ module _ (d : Data) (log : KeptCycles) (b : BusWorld) (others : Data) where
         (reply_by (shape_at (put_kind size one) physical turn (length b.drives) (page_of mapping b) slave) b).after
     by_slave Word physical turn mapping (Core k) = record {
       same_place = refl;
-      tells = record { core = core_tells Word physical k; drives = λ n k half all. all.0; codes = λ code all. all.0; buffers = buffers_kept _ _ };
+      tells = record { core = core_tells Word physical k; drives = λ n k half all. all.0; tape = λ k all. all.0; codes = λ code all. all.0; buffers = buffers_kept _ _ };
     }
     by_slave Byte physical turn mapping (Core k) = record {
       same_place = refl;
-      tells = record { core = core_tells Byte physical k; drives = λ n k half all. all.0; codes = λ code all. all.0; buffers = buffers_kept _ _ };
+      tells = record { core = core_tells Byte physical k; drives = λ n k half all. all.0; tape = λ k all. all.0; codes = λ code all. all.0; buffers = buffers_kept _ _ };
     }
     by_slave Word physical turn mapping (Device r) = record { same_place = refl; tells = word_tells turn mapping physical from one other new r }
     by_slave Byte physical turn mapping (Device r) = record { same_place = refl; tells = byte_tells turn mapping physical from one other new r }

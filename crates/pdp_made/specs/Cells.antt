@@ -3,7 +3,7 @@
 -- disk's controller are no data: they are the way that a program goes. No rule of the handbook is
 -- here.
 use Rattle.std.specs.Prelude.{ℕ, ◌≡◌, ◌/◌, ◌%◌, Bool, false, List, [], ◌∷◌, Option, Some, None}
-use Rattle.std.specs.Prelude.{length, is_some, get_or, slice_index}
+use Rattle.std.specs.Prelude.{length, is_some, get_or, slice_get, slice_index}
 use Rattle.pdp_word.specs.declared.codes.Codes.{Codes}
 use Rattle.pdp_kt11.specs.declared.mode.Mode.{Mode}
 use Rattle.pdp_store.specs.CycleLogs.{KeptCycles}
@@ -50,16 +50,17 @@ pub data DeviceBuffer : Type 0 where
   Switches : DeviceBuffer
 
 -- A cell: a half of a word of core or of a drive, a half of a register by its place among the words
--- (R0 to R5, and then the stack pointers of kernel and user mode), a condition code, or the buffer
--- of a device; then what one phase hands to the next, by the names of the latch: halves of the
--- operand, of the source, of the result and of a new program status word, and the codes that are
--- due; and the codes that the sequence of a trap saves.
+-- (R0 to R5, and then the stack pointers of kernel and user mode), a condition code, the buffer of
+-- a device, or a byte of the paper tape, which nothing changes; then what one phase hands to the
+-- next, by the names of the latch: halves of the operand, of the source, of the result and of a new
+-- program status word, and the codes that are due; and the codes that the sequence of a trap saves.
 pub data DataCell : Type 0 where
   CoreByte : ℕ → Half → DataCell
   DriveByte : ℕ → ℕ → Half → DataCell
   RegisterByte : ℕ → Half → DataCell
   CodeNow : ConditionCode → DataCell
   Buffer : DeviceBuffer → DataCell
+  TapeByte : ℕ → DataCell
   ValueByte : Half → DataCell
   SourceByte : Half → DataCell
   ResultByte : Half → DataCell
@@ -77,6 +78,7 @@ pub record BusData : Type 0 where
   pub reader : ℕ
   pub punch : ℕ
   pub switches : ℕ
+  pub tape : List ℕ
 
 -- all data
 pub record Data : Type 0 where
@@ -99,6 +101,7 @@ data_on b = record {
   reader = b.io_page.paper_tape.reader.byte;
   punch = b.io_page.paper_tape.punch.byte;
   switches = b.io_page.switches;
+  tape = b.tape;
 }
 
 -- the data of a state in which the sequence of a trap saves these codes
@@ -154,6 +157,7 @@ abbrev pub bus_with : BusData → KeptCycles → BusWorld → BusWorld
 bus_with d log b = record b {
   core = d.core;
   drives = d.drives;
+  tape = d.tape;
   log = log;
   io_page = io_page_with d b.io_page;
 }
@@ -220,6 +224,7 @@ Same d e (RegisterByte n half) = byte_in half (slice_index d.words n)
     ≡ byte_in half (slice_index e.words n)
 Same d e (CodeNow code) = flag_in code d.bus.codes ≡ flag_in code e.bus.codes
 Same d e (Buffer buffer) = held_in buffer d.bus ≡ held_in buffer e.bus
+Same d e (TapeByte k) = slice_get d.bus.tape k ≡ slice_get e.bus.tape k
 Same d e (ValueByte half) = byte_in half d.value ≡ byte_in half e.value
 Same d e (SourceByte half) = byte_in half d.source ≡ byte_in half e.source
 Same d e (ResultByte half) = byte_in half d.result ≡ byte_in half e.result

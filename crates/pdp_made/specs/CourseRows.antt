@@ -13,7 +13,7 @@ use Rattle.pdp_instruction.specs.Handbook.Instruction.{fetch_instruction, instru
 use Rattle.pdp_instruction.specs.Handbook.TrapSequence.{saved_context_of, sequence, trap_vector}
 use Rattle.pdp_instruction.specs.declared.saved_context.SavedContext.{SavedContext}
 use Rattle.pdp_made.specs.Cells.{AreAlike, Data, DataCell, CoreByte, DriveByte, RegisterByte}
-use Rattle.pdp_made.specs.Cells.{CodeNow, Buffer}
+use Rattle.pdp_made.specs.Cells.{CodeNow, Buffer, TapeByte}
 use Rattle.pdp_made.specs.Cells.{CodeSaved, EachSame, Same, data_left, data_of}
 use Rattle.pdp_made.specs.Cells.{no_saved_codes, with_data}
 use Rattle.pdp_made.specs.InstructionRows.{rows_of_action}
@@ -47,6 +47,7 @@ of_lost_plan made (DriveByte n k half) = made (DriveByte n k half)
 of_lost_plan made (RegisterByte n half) = made (RegisterByte n half)
 of_lost_plan made (CodeNow code) = made (CodeNow code)
 of_lost_plan made (Buffer buffer) = made (Buffer buffer)
+of_lost_plan made (TapeByte k) = made (TapeByte k)
 of_lost_plan made (CodeSaved code) = made (CodeSaved code)
 of_lost_plan made c = c ∷ []
 

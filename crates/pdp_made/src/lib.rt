@@ -1,7 +1,7 @@
 //! What a value is made of: for each phase of pdp_instruction a row says of which cells before the
 //! phase each cell after it is made. A cell holds data: a half of a word or of a register, a
-//! condition code, the buffer of a device, or what one phase hands to the next. The crate has
-//! definitions and laws alone, and no program stands on it.
+//! condition code, the buffer of a device, a byte of the paper tape, or what one phase hands to the
+//! next. The crate has definitions and laws alone, and no program stands on it.
 //!
 //! # What is proved
 //!
@@ -14,7 +14,7 @@
 //!   trap or an interrupt (`rows_tell_what_sequences_make`).
 //!
 //! The laws say that the named cells are enough, not that each of them matters. They say nothing of
-//! two states that go different ways, of the beginning of a turn, and of more than one instruction.
+//! two states that go different ways. Of turns and of runs are those of pdp_made_run.
 #![tactic(auto)]
 
 mod laws;
