@@ -51,8 +51,17 @@ class Parts(Tree):
         ended = self.run_in("bash", ".ci/run", "definitions", "web-sessions")
         self.assertEqual(self.words(), ["list-definitions --check", "check web-sessions"])
         self.assertEqual(ended.returncode, 1)  # by the least counts, as in the whole
-        self.assertIn("definitions: 3 passed, 0 failed (at least 368), ", self.said)
+        self.assertRegex(self.said, r"definitions: 3 passed, 0 failed \(at least \d+\), ")
         self.assertTrue(ended.stdout.endswith("\n0 passed, 2 failed\n"), self.said)
+
+    def test_all_but_the_proofs(self) -> None:
+        for name in "test_release.py", "test_webassembly.py", "refuse-each", "web":
+            self.write(f"tools/{name}", COMMAND, 0o755)
+        ended = self.run_in("bash", ".ci/run", "--without-proofs")
+        listed = self.run_in("bash", ".ci/run", "--list").stdout.split()
+        begun = re.findall("^== ([^: ]+): ", ended.stdout, re.M)
+        self.assertEqual(["rt-ci", *begun], listed, self.said)
+        self.assertIn("\nNothing was proved: ", ended.stdout)
 
     def test_what_is_no_part(self) -> None:
         for words in (["portables"], ["names", ""], ["--quick", "names"], ["--lists"]):
