@@ -3,7 +3,6 @@ _nezdrab_disassemble() {
     local options='-h
 --help
 -V
---version
 --version'
     local word=${COMP_WORDS[COMP_CWORD]} before=${COMP_WORDS[COMP_CWORD - 1]} IFS=$'\n'
     if [[ $word == = ]]; then

@@ -2,4 +2,3 @@
 complete -c nezdrab-disassemble -f
 complete -c nezdrab-disassemble -s h -l help -d 'Print help'
 complete -c nezdrab-disassemble -s V -l version -d 'Print version'
-complete -c nezdrab-disassemble -l version -d 'Print the newest release'

@@ -2,5 +2,4 @@
 # Made by tools/make-manual: completes the options and files of nezdrab-disassemble.
 _arguments \
   '(-h --help)'{-h,--help}'[Print help]' \
-  '(-V --version)'{-V,--version}'[Print version]' \
-  '--version[Print the newest release]'
+  '(-V --version)'{-V,--version}'[Print version]'

@@ -16,7 +16,6 @@ _nezdrab_search() {
 -h
 --help
 -V
---version
 --version'
     local word=${COMP_WORDS[COMP_CWORD]} before=${COMP_WORDS[COMP_CWORD - 1]} IFS=$'\n'
     if [[ $word == = ]]; then

@@ -15,4 +15,3 @@ complete -c nezdrab-search -l start -x -d 'Start address, octal and even [defaul
 complete -c nezdrab-search -l stride -x -d 'Turns between kept states, 1 to 2000000000 [default: 10000]'
 complete -c nezdrab-search -s h -l help -d 'Print help'
 complete -c nezdrab-search -s V -l version -d 'Print version'
-complete -c nezdrab-search -l version -d 'Print the newest release'

@@ -15,5 +15,4 @@ _arguments \
   '--start=[Start address, octal and even \[default\: 1000\]]:A: ' \
   '--stride=[Turns between kept states, 1 to 2000000000 \[default\: 10000\]]:N: ' \
   '(-h --help)'{-h,--help}'[Print help]' \
-  '(-V --version)'{-V,--version}'[Print version]' \
-  '--version[Print the newest release]'
+  '(-V --version)'{-V,--version}'[Print version]'

@@ -99,13 +99,11 @@ OF_ADAPTER = [
     Ending("130", "Ctrl-C ended it"),
 ]
 OF_DISASSEMBLE = [
-    Ending("0", "end of input, or help was asked for"),
+    Ending("0", "end of input, or help or the release was asked for"),
     Ending("2", "the arguments are wrong"),
     Ending("3", "the input can't be read, or the output can't be written"),
     Ending("4", "out of memory"),
 ]
-# Which tools/start has, and the help of the program doesn't show.
-VERSION = Option("--version", "", "", False, "Print the newest release")
 
 
 def programs() -> list[Program]:
@@ -123,7 +121,7 @@ def programs() -> list[Program]:
             "search",
             heading(of_search),
             [f"{lines_in} Beside the lines of nezdrab(1) there are those that search its turns."],
-            [*options_of_help(of_search), VERSION],
+            options_of_help(of_search),
             endings,
         ),
         Program(
@@ -149,7 +147,7 @@ def disassembler() -> Program:
         "disassemble",
         heading(text),
         ["\n".join(part) for _, part in parts],
-        [*options_of_help(text), VERSION],
+        options_of_help(text),
         OF_DISASSEMBLE,
         has_language=False,
     )
