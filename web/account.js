@@ -12,7 +12,7 @@ import { eventInWords } from "./past.js";
 import { octal, wordsOf } from "./replies.js";
 
 const [MOST_LINES, MOST_LEVELS, MOST_NAMES] = [100, 30, 6];
-// Of steps with one input each from so many on are one line; so many of them are looked at.
+// Steps of one input each: from so many on they are one line; so many of them are looked at.
 const [LONG_RUN, LOOKED_AT, FEW_TURNS] = [3, 40, 3];
 /** @type {Object<number, (cell: number) => string>} */
 const OTHER_ENDS = {
@@ -22,11 +22,11 @@ const OTHER_ENDS = {
 };
 
 /**
- * A line, which ends with what its step is. Before it stand the steps of a run, if any. `above` is
- * the number of the line whose step is made of this one, -1 of the value itself; `written` the cell
- * that the step wrote.
- * @typedef {{depth: number, head: string, step: Step, written: number, run: Step[], note: string,
- *   above: number}} Line
+ * A line, which ends with what its step is. Before it stands a run, which its step went into, if
+ * any. `above` is the number of the line whose step is made of this one, -1 of the value itself;
+ * `written` the cell that the step wrote.
+ * @typedef {{depth: number, head: string, step: Step, written: number, runHead: string,
+ *   run: Step[], note: string, above: number}} Line
  */
 
 /**
@@ -213,7 +213,9 @@ export class Account {
     for (let it = source, name = head, from = above; !this.isFull(depth);) {
       const { step } = it, number = this.lines.length;
       /** @type {Line} */
-      const line = { depth, head: name, step, written: it.written, run: [], note: "", above: from };
+      const line = {
+        depth, head: name, step, written: it.written, runHead: "", run: [], note: "", above: from,
+      };
       this.lines.push(line);
       const sources = this.sourcesOf(line), last = sources.at(-1);
       if (!last || this.addRun(line, number)) return;
@@ -238,7 +240,7 @@ export class Account {
     }
     this.shown.add(step);
     if (this.steps.left.has(step)) {
-      line.note = sources.length ? " .. followed in part" : " .. not followed";
+      line.note = sources.length ? ", followed in part" : ", not followed";
     }
     return sources;
   }
@@ -255,35 +257,41 @@ export class Account {
     return `${this.named(source.cell, step.turn)}${this.copied(source.copies)} <- `;
   }
 
-  /** One value that goes through many operations: one line for all of them.
+  /** One value that goes through many operations before this one: one line for all.
       @param {Line} line @param {number} number */
   addRun(line, number) {
-    const run = this.steps.runOfOne(line.step);
-    if (run.length <= LONG_RUN) return false;
+    const run = this.steps.runOfOne(line.step).slice(1);
+    if (run.length < LONG_RUN) return false;
     for (const it of run) this.shown.add(it);
     const last = run[run.length - 1], [source] = this.steps.sources(last);
-    const begin = this.lines.length;
+    const [first] = this.steps.sources(line.step), begin = this.lines.length;
     this.add(source, line.depth + 1, this.head(last, source), number);
-    if (begin < this.lines.length) this.lines[begin].run = run;
+    if (begin < this.lines.length) {
+      this.lines[begin].runHead = this.head(line.step, first);
+      this.lines[begin].run = run;
+    }
     return true;
   }
 
-  /** @param {Step[]} run */
-  runInWords(run) {
+  /** @param {Line} line */
+  runInWords({ run, runHead }) {
     if (!run.length) return "";
     const looked = run.slice(0, LOOKED_AT).map(it => operationIn(this.texts.get(it.turn) ?? ""));
     const names = [...new Set(looked)];
-    const more = names.length > MOST_NAMES || run.length > LOOKED_AT ? " .." : "";
+    const last = run.length > LOOKED_AT ? `the last ${LOOKED_AT}: ` : "";
+    const others = names.length > MOST_NAMES ? " and others" : "";
     const turns = `turns ${run[run.length - 1].turn} to ${run[0].turn}`;
-    return `${run.length} operations on this one value (${names.slice(0, MOST_NAMES).join(" ")}`
-      + `${more}) in ${turns} <- `;
+    return `${runHead}${run.length} operations on it`
+      + ` (${last}${names.slice(0, MOST_NAMES).join(" ")}${others}) in ${turns}, from `;
   }
 
   /** @param {Line} line @returns {Shown} */
-  shownLine({ depth, head, step, written, run, note, above }) {
+  shownLine(line) {
+    const { depth, step, written, note, above } = line;
     const value = isWrite(step) ? this.value(written, step.turn + 1) : "";
     const text = `${this.what(step)}${value ? `: ${value}` : ""}${note}`;
-    return { depth, head: `${head}${this.runInWords(run)}`, text, above, ...this.placeOf(step) };
+    const head = `${this.runInWords(line)}${line.head}`;
+    return { depth, head, text, above, ...this.placeOf(step) };
   }
 
   /** The turn of a step, and the lane in which it is drawn; an end may have none.
