@@ -10,7 +10,7 @@
 //!
 //! # What is only tested
 //!
-//! - The texts of help and of `--version`; the built program on lines whose texts are known from outside.
+//! - The texts of help and `--version`; the built program on lines with texts known from outside.
 //!
 //! What standard input and output do is left to the system.
 #![tactic(auto)]
@@ -40,7 +40,7 @@ fn main(rt: HostRuntime) -> ExitCode {
     ExitCode::from(ending.status())
 }
 
-/// Writes the help or the release that the command line asks for, or answers the lines of standard input.
+/// Writes the text that the command line asks for, or answers the lines of standard input.
 fn run(rt: &HostRuntime) -> Result<(), Ending> {
     let words = env::args(rt)?.collect::<Vec<String>>(rt.alloc())?;
     match text_asked(rt.alloc(), words.as_slice())? {

@@ -97,7 +97,7 @@ pub record BusesAlike (b d : BusWorld) : Type 0 where
   pub drive_sizes : (n : ℕ)
       → length (words_of_drive d.drives n) ≡ length (words_of_drive b.drives n)
 
--- Before each event both buses are alike, and the events are the same but for their data.
+-- Before each event both buses are alike, and the events are the same except for their data.
 unfoldable pub EventsAlike : List Event → List Event → Progress → Progress → Type 0
 EventsAlike [] [] p q = Unit {0}
 EventsAlike (e ∷ es) (f ∷ fs) p q = BusesAlike p.bus q.bus × (f ≡ with_event_data (event_data f) e)
@@ -115,7 +115,7 @@ pub record BeginAlike (t : ℕ) (es fs : List Event) (w v : World) : Type 0 wher
   pub disk : BusesAlike (before_disk t es w.bus).bus (before_disk t fs v.bus).bus
   pub act : WorldsAlike (beginning t es w) (beginning t fs v)
 
--- The events are the same but for their data.
+-- The events are the same except for their data.
 abbrev pub AreSameEvents : List Event → List Event → Type 0
 AreSameEvents [] [] = Unit {0}
 AreSameEvents (e ∷ es) (f ∷ fs) = (f ≡ with_event_data (event_data f) e) × AreSameEvents es fs

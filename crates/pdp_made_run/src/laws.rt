@@ -36,7 +36,7 @@ pub fn outputs_are_made_of_buffers()
 {}
 
 /// A law and no code: two worlds are alike except for data between two turns, with drives and tapes
-/// of the same sizes, and the events of the next turn are the same but for their data. If the
+/// of the same sizes, and the events of the next turn are the same except for their data. If the
 /// disk's last function is no write check, the beginning of the turn goes the same way in both.
 pub fn beginnings_go_the_same_way()
     ensures { BeginningsGoAlike }

@@ -60,9 +60,9 @@ CURRENT_TURN = (
     "The current turn is the one that a line found (until, next, where, first, latest, last, "
     "change, when, fades, continue, expect) or showed (show, step, back, over, finish, see, list,"
     " calls, dump, screen, why) last, also by a line with reverse-, or where you left the "
-    "console. The lines that show begin there if they name no turn, `until`, `next` and"
-    " `continue` after it, and so do `expect` and, if no event lies behind it, `type`. Other lines, edits too, leave it as it is. The prompt at a "
-    "terminal names it, if it isn't turn 0."
+    "console. The lines that show begin there if they name no turn, and so do `expect` and, if no "
+    "event lies behind it, `type`; `until`, `next` and `continue` begin after it. Other lines, "
+    "edits too, leave it as it is. The prompt at a terminal names it, if it isn't turn 0."
 )
 # Topics of help that are rules: a title, and the rules.
 RULES = {
