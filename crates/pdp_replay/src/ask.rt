@@ -36,6 +36,8 @@ pub use sought::Sought;
 pub use text_part::TextKind;
 pub use told::Told;
 pub use trail::{Trail, TrailEntry};
-pub use turn_condition::{MOST_CONDITIONS, Quantity, Relation, TurnCondition, TurnConditions};
+pub use turn_condition::{
+    Comparand, MOST_CONDITIONS, Quantity, Relation, TurnCondition, TurnConditions,
+};
 pub use virtual_words::{Cause, Unreadable, VirtualWords};
 pub use writes::Written;

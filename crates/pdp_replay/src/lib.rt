@@ -67,7 +67,7 @@ mod past;
 mod run;
 
 pub use ask::{
-    AccessesFound, Bytes, Cause, CompletionsFound, CountedWords, DiskCompletion, DiskTurn,
+    AccessesFound, Bytes, Cause, Comparand, CompletionsFound, CountedWords, DiskCompletion, DiskTurn,
     FoundWords, Items, LastWrite, MOST_CONDITIONS, Numbers, Quantity, Question, ReadsFound,
     Relation, Sought, TextKind, Told, Trail, TrailEntry, TurnCondition, TurnConditions, TurnDetail,
     TurnHead, Unreadable, Value, VirtualWords, WantedWords, WordPattern, WordRead, Words, Written,
