@@ -3,7 +3,7 @@
 use Rattle.pdp_operand.specs.Phases.Course.{follow}
 use Rattle.pdp_operand.specs.Phases.Phase.{run}
 use Rattle.pdp_cpu.proofs.CalmDrives.{drives_stay_none}
-use Rattle.pdp_cpu.proofs.CalmTurns.{calm_later, calm_start, instructs_next, stamp_stays_next, value_stays_next, word_stays}
+use Rattle.pdp_cpu.proofs.CalmTurns.{calm_later, calm_start, instructs_next}
 use Rattle.pdp_cpu.proofs.KeptTexts.{kept_one, length_before, text_and_one, text_before}
 use Rattle.pdp_cpu.proofs.TurnLaws.{turn_keeps_stamps, turn_keeps_words}
 use Rattle.pdp_cpu.specs.Handbook.Due.{serve, serving, take_stack, take_trace}
@@ -16,9 +16,6 @@ pub ruleset bursts = (calm_start, calm_later)
 
 -- for goals on a burst of which more is known: that its turns are instructions and leave the drives
 pub ruleset calm_bursts = (instructs_next, drives_stay_none)
-
--- for goals on a burst that ends with the first write of a word
-pub ruleset stamped_bursts = (stamp_stays_next, value_stays_next, word_stays)
 
 -- for goals on a text with a byte more
 pub ruleset longer_texts = (kept_one, text_and_one)

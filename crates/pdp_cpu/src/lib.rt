@@ -11,9 +11,9 @@
 //!   (`Machine::turn_and_tell_disk`).
 //! - A burst of n turns of a calm machine is n turns of the definition without events, each of them
 //!   an instruction that leaves the drives, and the meter counts n (`Machine::run_calmly`). A burst
-//!   that is to stop before an address runs no turn that begins with PC there
-//!   (`run_calmly_before`). One that is to stop at a write to a word of core runs no turn after the
-//!   first that writes it (`run_calmly_to_write`).
+//!   with an end runs only turns before which that lets it pass (`run_calmly_while`, [`BurstEnd`]):
+//!   up to an address it runs no turn that begins with PC there (`run_calmly_before`), and up to a
+//!   write to a word of core no turn after the first that writes it (`run_calmly_to_write`).
 //! - A turn touches the page of every word that it reads, writes, moves or compares, in core and on
 //!   the drives: the first touches after it are those before it with its trace (`Machine::turn`).
 //!   A load leaves them; `first` returns the first touch of a page, and `forget` drops late ones.
@@ -40,6 +40,7 @@
 #![tactic(auto)]
 
 mod act;
+mod burst_end;
 mod calm_turns;
 mod drives;
 mod due;
@@ -56,6 +57,7 @@ mod turn_disk;
 mod turn_trap;
 
 pub use act::Act;
+pub use burst_end::{AtTurn, BeforeAddress, BurstEnd};
 pub use kept_text::KeptByte;
 pub use laws::{
     halted_machines_stay, logs_disturb_nothing, stamps_are_last_writes, stamps_disturb_nothing,
@@ -66,7 +68,7 @@ pub use machine::Machine;
 pub use meter::Meter;
 pub use pdp_kt11::Mode;
 pub use pdp_operand::RunState;
-pub use pdp_quick::WordTable;
+pub use pdp_quick::{Computer, WordTable};
 pub use pdp_unibus::{DeviceRegisters, LAST_TURN, PageRegisters};
 pub use regs::Regs;
 pub use saved::{PagedMachine, Saved, SavedOutput};
