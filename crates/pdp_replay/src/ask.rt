@@ -13,6 +13,7 @@ mod last_write;
 mod patch_fading;
 mod question;
 mod reads;
+mod register_test;
 mod search;
 mod search_turns;
 mod sought;

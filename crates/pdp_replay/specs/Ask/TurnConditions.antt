@@ -1,6 +1,6 @@
 -- Conditions on a turn: on the state of the machine before it, and on its act [P].
 use Rattle.std.specs.Prelude.{ℕ, ◌≡◌, ◌<◌, ◌/◌, ◌==◌, Bool, true, false, not, nat_lt, bit_and, List}
-use Rattle.std.specs.Prelude.{[], ◌∷◌, Option, None, Some, is_none, slice_get, Result, Ok}
+use Rattle.std.specs.Prelude.{[], ◌∷◌, Option, None, Some, slice_get, Result, Ok}
 use Rattle.std.specs.Prelude.{if◌then◌else◌}
 use Rattle.std.specs.List.{list_all}
 use Rattle.std.specs.Option.{option_or}
@@ -126,16 +126,6 @@ word_of_condition (condition.Compared quantity relation comparand) =
     word_compared comparand quantity
 word_of_condition (condition.Masked quantity mask word) = word_of_quantity quantity
 word_of_condition _ = None
-
--- is a condition, if there is one, on neither the address of an instruction nor a word of core? A
--- search for such conditions alone looks at each turn
-abbrev pub is_stepped_if_there : Option TurnCondition → Bool
-is_stepped_if_there None = true
-is_stepped_if_there (Some (condition.At address)) = false
-is_stepped_if_there (Some other) = is_none (word_of_condition other)
-
-abbrev pub all_stepped : List (Option TurnCondition) → Bool
-all_stepped conditions = list_all is_stepped_if_there conditions
 
 -- the same, if there is a condition and a world doesn't meet it: until the word changes none does
 abbrev pub unmet_word_if_there : Option TurnCondition → World → Option ℕ

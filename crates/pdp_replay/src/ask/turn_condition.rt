@@ -4,12 +4,12 @@ ghost use Rattle.std.specs.Prelude.{◌≡◌, Some};
 ghost use Rattle.pdp_replay.specs.Past.Setup.{SetupData};
 ghost use Rattle.pdp_replay.specs.Ask.Writes.{then_checked};
 ghost use Rattle.pdp_replay.specs.Ask.TurnConditions.{address_asked, address_if_there, all_fit};
-ghost use Rattle.pdp_replay.specs.Ask.TurnConditions.{all_met_in, all_stepped, are_related};
+ghost use Rattle.pdp_replay.specs.Ask.TurnConditions.{all_met_in, are_related};
 ghost use Rattle.pdp_replay.specs.Ask.TurnConditions.{checked_if_there, comparand_checked};
 ghost use Rattle.pdp_replay.specs.Ask.TurnConditions.{comparand_in, condition_checked};
 ghost use Rattle.pdp_replay.specs.Ask.TurnConditions.{conditions_checked, fits};
 ghost use Rattle.pdp_replay.specs.Ask.TurnConditions.{fits_if_there, is_met_if_there, is_met_in};
-ghost use Rattle.pdp_replay.specs.Ask.TurnConditions.{is_related, is_stepped_if_there};
+ghost use Rattle.pdp_replay.specs.Ask.TurnConditions.{is_related};
 ghost use Rattle.pdp_replay.specs.Ask.TurnConditions.{quantity_checked, quantity_in};
 ghost use Rattle.pdp_replay.specs.Ask.TurnConditions.{unmet_word, unmet_word_if_there};
 ghost use Rattle.pdp_replay.specs.Ask.TurnConditions.{word_compared, word_of_condition};
@@ -96,7 +96,7 @@ pub enum Relation {
 
 impl Relation {
     /// Whether two words are in this relation.
-    fn holds(self, first: u16, second: u16) -> bool
+    pub(crate) fn holds(self, first: u16, second: u16) -> bool
         ensures { result ≡ is_related self first second }
     {
         match self {
@@ -242,7 +242,7 @@ fn check_both(quantity: Quantity, comparand: Comparand, units: u8) -> Result<(),
 impl TurnCondition {
     /// The number of the core word that the condition is on, if it is on one: as long as the word
     /// stays, the condition stays met or unmet.
-    fn word(self) -> Option<usize>
+    pub(crate) fn word(self) -> Option<usize>
         ensures { result ≡ word_of_condition self }
     {
         match self {
@@ -257,7 +257,7 @@ impl TurnCondition {
     }
 
     /// Whether the machine before a turn meets the condition; the turn's act isn't looked at.
-    fn is_met_by(self, machine: &PagedMachine) -> bool
+    pub(crate) fn is_met_by(self, machine: &PagedMachine) -> bool
         ensures { result ≡ is_met_in self machine.now.state.world }
     {
         match self {
@@ -374,30 +374,6 @@ fn address_if_there(condition: Option<TurnCondition>) -> Option<u16>
     match condition {
         Some(TurnCondition::At { address }) => Some(address),
         _ => None,
-    }
-}
-
-/// Whether a search for these conditions looks at each turn: none is on the address of an
-/// instruction or on a word of core.
-pub(crate) fn are_stepped(conditions: TurnConditions) -> bool
-    ensures { result ≡ all_stepped conditions }
-{
-    let [first, second, third, fourth] = conditions;
-    is_stepped_if_there(first)
-        && is_stepped_if_there(second)
-        && is_stepped_if_there(third)
-        && is_stepped_if_there(fourth)
-}
-
-/// Whether a condition, if there is one, is on neither the address of an instruction nor a word of
-/// core.
-fn is_stepped_if_there(condition: Option<TurnCondition>) -> bool
-    ensures { result ≡ is_stepped_if_there condition }
-{
-    match condition {
-        Some(TurnCondition::At { .. }) => false,
-        Some(condition) => condition.word().is_none(),
-        None => true,
     }
 }
 
