@@ -8,8 +8,9 @@
 //! - A step is its phase (`run_step`), for every processor, bus and latch.
 //! - The steps of an action are the phases of its plan, in their order (`steps_of`), and so are
 //!   those of the sequence of a trap and of the red sequence (`sequence_steps`, `red_steps`).
-//! - Steps that are run one after the other are the run of their phases (`run_steps`), and those of
-//!   the instruction that was fetched the run of its plan (`carry_out`).
+//! - Steps that are run one after the other are the run of their phases (`run_steps`). So are those
+//!   of the instruction that was fetched (`carry_out`), and of both sequences (`run_sequence`,
+//!   `run_red_sequence`), whatever the latch holds.
 //!
 //! What a plan does is left to pdp_instruction, and what its phases make of what to pdp_made.
 #![tactic(auto)]
@@ -19,6 +20,8 @@ mod control_step;
 mod execute_step;
 mod extended_step;
 mod fetch_step;
+#[cfg(test)]
+mod instructions_by_steps;
 mod jump_step;
 mod operand_step;
 mod step;
@@ -35,6 +38,6 @@ pub use jump_step::JumpStep;
 pub use operand_step::OperandStep;
 pub use step::Step;
 pub use step_latch::StepLatch;
-pub use step_run::{carry_out, run_step, run_steps};
+pub use step_run::{carry_out, run_red_sequence, run_sequence, run_step, run_steps};
 pub use trap_sequences::{red_steps, sequence_steps};
 pub use trap_step::TrapStep;

@@ -50,8 +50,7 @@ pub enum OperandStep {
 impl OperandStep {
     /// Runs the step.
     ///
-    /// Err if a reference faults, or if the kernel's stack is past its limit; the latch is then as
-    /// before.
+    /// Err if a reference faults, or if the kernel's stack is past its limit.
     #[inline(always)]
     pub fn run<S: Store, D: Store>(
         self,

@@ -5,6 +5,7 @@ ghost use Rattle.pdp_word.specs.Size.{span};
 ghost use Rattle.pdp_word.specs.declared.size.Size.{Size};
 ghost use Rattle.pdp_operand.specs.Phases.Plan.{phases_of};
 ghost use Rattle.pdp_instruction.specs.Handbook.Action.{plan_of};
+ghost use Rattle.pdp_instruction.specs.Handbook.TrapSequence.{red_plan, trap_plan};
 ghost use Rattle.pdp_steps.specs.Contract.{AreReady, ArePhases, IsPhase, IsStep};
 ghost use Rattle.pdp_steps.specs.Steps.{CanRun, phase_of, size_after};
 
@@ -12,7 +13,9 @@ use crate::action_steps::steps_of;
 use crate::fetch_step::{fetch_instruction, note_trace};
 use crate::step::Step;
 use crate::step_latch::StepLatch;
+use crate::trap_sequences::{red_steps, sequence_steps};
 use pdp_action::action_of;
+use pdp_instruction::SavedContext;
 use pdp_operand::{Processor, Trap};
 use pdp_store::Store;
 use pdp_unibus::Bus;
@@ -57,8 +60,7 @@ fn run_kind<S: Store, D: Store>(
 /// What is to be written must fit the step: a byte is below 400 (octal). After the step it has the
 /// size that the step gives it.
 ///
-/// Err if the step can't go on. Processor and bus are then as the phase leaves them, and the latch
-/// is as before.
+/// Err if the step can't go on. Processor and bus are then as the phase leaves them.
 #[tactic(auto, using(crate::proofs::Single::single))]
 pub fn run_step<S: Store, D: Store>(
     processor: &mut Processor,
@@ -109,4 +111,44 @@ pub fn carry_out<S: Store, D: Store>(
     let _word = latch.result;
     let steps = steps_of(action_of(latch.instr));
     run_steps(processor, bus, latch, steps.as_slice())
+}
+
+/// Runs the steps of the sequence with this vector (octal, bytes). `context` is what it saves;
+/// `marks` says whether its pushes may leave a stack trap pending.
+///
+/// Err at the first that can't go on.
+pub fn run_sequence<S: Store, D: Store>(
+    processor: &mut Processor,
+    bus: &mut Bus<S, D>,
+    latch: &mut StepLatch,
+    marks: bool,
+    vector: u16,
+    context: SavedContext,
+) -> Result<(), Trap>
+    requires { vector < 0o1000 }
+    ensures { ArePhases (phases_of (trap_plan marks vector context)) processor.old bus.old latch.old
+        result processor.new bus.new latch.new }
+{
+    // as in `carry_out`
+    let _word = latch.result;
+    let steps = sequence_steps(marks, vector, context);
+    run_steps(processor, bus, latch, &steps)
+}
+
+/// Runs the steps of the red sequence.
+///
+/// Err at the first that can't go on.
+pub fn run_red_sequence<S: Store, D: Store>(
+    processor: &mut Processor,
+    bus: &mut Bus<S, D>,
+    latch: &mut StepLatch,
+    context: SavedContext,
+) -> Result<(), Trap>
+    ensures { ArePhases (phases_of (red_plan context)) processor.old bus.old latch.old result
+        processor.new bus.new latch.new }
+{
+    // as in `carry_out`
+    let _word = latch.result;
+    let steps = red_steps(context);
+    run_steps(processor, bus, latch, &steps)
 }

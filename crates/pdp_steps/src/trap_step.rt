@@ -47,7 +47,7 @@ pub enum TrapStep {
 impl TrapStep {
     /// Runs the step.
     ///
-    /// Err if it can't go on; the latch is then as before.
+    /// Err if it can't go on.
     #[inline(always)]
     #[tactic(auto, unfolding(crate::proofs::Rules::trapping))]
     pub fn run<S: Store, D: Store>(
