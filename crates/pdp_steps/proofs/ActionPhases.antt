@@ -28,10 +28,10 @@ use Rattle.pdp_steps.specs.Contract.{CanRunAt, CanRunInOrder}
 use Rattle.pdp_steps.specs.Steps.{phase_of}
 use Rattle.pdp_steps.specs.declared.execute_step.ExecuteStep.TheVariants as execute
 use Rattle.pdp_steps.specs.declared.jump_step.JumpStep.TheVariants as jumping
-use Rattle.pdp_steps.specs.declared.step.Step.{Step}
-use Rattle.pdp_steps.specs.declared.step.Step.TheVariants as step
+use Rattle.pdp_steps.specs.declared.step.Microstep.{Microstep}
+use Rattle.pdp_steps.specs.declared.step.Microstep.TheVariants as step
 
-append_phases : (xs ys : List Step) → map phase_of (xs ++ ys) ≡ map phase_of xs ++ map phase_of ys
+append_phases : (xs ys : List Microstep) → map phase_of (xs ++ ys) ≡ map phase_of xs ++ map phase_of ys
 append_phases [] ys = refl
 append_phases (x ∷ xs) ys = ap (λ ps. phase_of x ∷ ps) (append_phases xs ys)
 
@@ -47,7 +47,7 @@ find_phases size (Index r) = refl
 find_phases size (IndexDeferred r) = refl
 
 -- an operand is found, and then these
-found : (size : Size) (spec : Specifier) (steps : List Step)
+found : (size : Size) (spec : Specifier) (steps : List Microstep)
     → map phase_of (find_steps size spec ++ steps) ≡ phases_of (find size spec) ++ map phase_of steps
 found size spec steps = append_phases (find_steps size spec) steps ∙ ap (λ ps. ps ++ map phase_of steps) (find_phases size spec)
 
@@ -58,7 +58,7 @@ unfolding place_first source_first
 operands_phases_if true size source destination = found size destination _
 operands_phases_if false size source destination = found size source _ ∙ ap (λ ps. phases_of (find size source) ++ (read_operand size ∷ keep_source ∷ ps)) (find_phases size destination)
 
-operands : (size : Size) (source destination : Specifier) (steps : List Step)
+operands : (size : Size) (source destination : Specifier) (steps : List Microstep)
     → map phase_of (operands_steps size source destination ++ steps) ≡ phases_of (operands_plan size source destination) ++ map phase_of steps
 unfolding operands_plan
 operands size source destination steps =
@@ -97,7 +97,7 @@ action_phases (action.ShiftPair register source) = found Word source _
 
 -- What is written fits
 
-find_ready : (size : Size) (spec : Specifier) (rest : List Step) (now : Size) → CanRunInOrder rest now
+find_ready : (size : Size) (spec : Specifier) (rest : List Microstep) (now : Size) → CanRunInOrder rest now
     → CanRunInOrder (find_steps size spec ++ rest) now
 find_ready size (Register r) rest now ready = (tt, ready)
 find_ready size (Deferred r) rest now ready = (tt, ready)
@@ -108,7 +108,7 @@ find_ready size (AutodecrementDeferred r) rest now ready = (tt, (tt, ready))
 find_ready size (Index r) rest now ready = (tt, ready)
 find_ready size (IndexDeferred r) rest now ready = (tt, (tt, ready))
 
-late_ready : (size : Size) (source destination : Specifier) (rest : List Step) (now : Size) → CanRunInOrder rest now
+late_ready : (size : Size) (source destination : Specifier) (rest : List Microstep) (now : Size) → CanRunInOrder rest now
     → CanRunInOrder ((find_steps size destination ++ take_step size source ∷ []) ++ rest) now
 late_ready size source (Register r) rest now ready = (tt, (tt, ready))
 late_ready size source (Deferred r) rest now ready = (tt, (tt, ready))
@@ -119,11 +119,11 @@ late_ready size source (AutodecrementDeferred r) rest now ready = (tt, (tt, (tt,
 late_ready size source (Index r) rest now ready = (tt, (tt, ready))
 late_ready size source (IndexDeferred r) rest now ready = (tt, (tt, (tt, ready)))
 
-kept_ready : (size : Size) (destination : Specifier) (rest : List Step) (now : Size) → CanRunInOrder rest now
+kept_ready : (size : Size) (destination : Specifier) (rest : List Microstep) (now : Size) → CanRunInOrder rest now
     → CanRunInOrder (read_step size ∷ keep_step ∷ find_steps size destination ++ rest) now
 kept_ready size destination rest now ready = (tt, (tt, find_ready size destination rest now ready))
 
-first_ready : (size : Size) (source destination : Specifier) (rest : List Step) (now : Size) → CanRunInOrder rest now
+first_ready : (size : Size) (source destination : Specifier) (rest : List Microstep) (now : Size) → CanRunInOrder rest now
     → CanRunInOrder (source_first_steps size source destination ++ rest) now
 first_ready size (Register r) destination rest now ready = (tt, kept_ready size destination rest now ready)
 first_ready size (Deferred r) destination rest now ready = (tt, kept_ready size destination rest now ready)
@@ -134,12 +134,12 @@ first_ready size (AutodecrementDeferred r) destination rest now ready = (tt, (tt
 first_ready size (Index r) destination rest now ready = (tt, kept_ready size destination rest now ready)
 first_ready size (IndexDeferred r) destination rest now ready = (tt, (tt, kept_ready size destination rest now ready))
 
-operands_ready_if : (late : Bool) (size : Size) (source destination : Specifier) (rest : List Step) (now : Size) → CanRunInOrder rest now
+operands_ready_if : (late : Bool) (size : Size) (source destination : Specifier) (rest : List Microstep) (now : Size) → CanRunInOrder rest now
     → CanRunInOrder ((if late then find_steps size destination ++ take_step size source ∷ [] else source_first_steps size source destination) ++ rest) now
 operands_ready_if true size source destination rest now ready = late_ready size source destination rest now ready
 operands_ready_if false size source destination rest now ready = first_ready size source destination rest now ready
 
-operands_ready : (size : Size) (source destination : Specifier) (rest : List Step) (now : Size) → CanRunInOrder rest now
+operands_ready : (size : Size) (source destination : Specifier) (rest : List Microstep) (now : Size) → CanRunInOrder rest now
     → CanRunInOrder (operands_steps size source destination ++ rest) now
 operands_ready size source destination rest now ready = operands_ready_if (is_late source destination) size source destination rest now ready
 

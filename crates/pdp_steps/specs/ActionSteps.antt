@@ -23,11 +23,11 @@ use Rattle.pdp_steps.specs.declared.extended_step.ExtendedStep.TheVariants as ex
 use Rattle.pdp_steps.specs.declared.jump_step.JumpStep.{JumpStep}
 use Rattle.pdp_steps.specs.declared.jump_step.JumpStep.TheVariants as jumping
 use Rattle.pdp_steps.specs.declared.operand_step.OperandStep.TheVariants as operand
-use Rattle.pdp_steps.specs.declared.step.Step.{Step}
-use Rattle.pdp_steps.specs.declared.step.Step.TheVariants as step
+use Rattle.pdp_steps.specs.declared.step.Microstep.{Microstep}
+use Rattle.pdp_steps.specs.declared.step.Microstep.TheVariants as step
 
 -- an operand is found
-abbrev pub find_steps : Size → Specifier → List Step
+abbrev pub find_steps : Size → Specifier → List Microstep
 find_steps size (mode.Register r) = step.Operand (operand.NameRegister r) ∷ []
 find_steps size (mode.Deferred r) = step.Operand (operand.Point r) ∷ []
 find_steps size (mode.Autoincrement r) = step.Operand (operand.Grow r (step_of size r)) ∷ []
@@ -41,86 +41,86 @@ find_steps size (mode.IndexDeferred r) =
     step.Operand (operand.Index r) ∷ step.Operand operand.Indirect ∷ []
 
 -- single steps
-abbrev pub read_step : Size → Step
+abbrev pub read_step : Size → Microstep
 read_step size = step.Operand (operand.Read size)
 
-abbrev pub read_first_step : Size → Step
+abbrev pub read_first_step : Size → Microstep
 read_first_step size = step.Operand (operand.ReadBeforeWrite size)
 
-abbrev pub write_step : Fill → Step
+abbrev pub write_step : Fill → Microstep
 write_step how = step.Operand (operand.Write how)
 
-abbrev pub keep_step : Step
+abbrev pub keep_step : Microstep
 keep_step = step.Execute execute.KeepSource
 
-abbrev pub store_step : Step
+abbrev pub store_step : Microstep
 store_step = step.Execute execute.StoreCodes
 
-abbrev pub take_step : Size → Specifier → Step
+abbrev pub take_step : Size → Specifier → Microstep
 take_step size source = step.Execute (execute.TakeRegister size (register_number source))
 
-abbrev pub source_first_steps : Size → Specifier → Specifier → List Step
+abbrev pub source_first_steps : Size → Specifier → Specifier → List Microstep
 source_first_steps size source destination =
     find_steps size source ++ read_step size ∷ keep_step ∷ find_steps size destination
 
 -- the source is read, and the destination's place is found
-abbrev pub operands_steps : Size → Specifier → Specifier → List Step
+abbrev pub operands_steps : Size → Specifier → Specifier → List Microstep
 operands_steps size source destination =
     if is_late source destination
     then find_steps size destination ++ take_step size source ∷ []
     else source_first_steps size source destination
 
 -- an operation, whose result is written, and whose codes are stored
-abbrev pub finish_steps : ExecuteStep → Fill → List Step
+abbrev pub finish_steps : ExecuteStep → Fill → List Microstep
 finish_steps operation how = step.Execute operation ∷ write_step how ∷ store_step ∷ []
 
-abbrev pub move_steps : Size → Fill → Specifier → Specifier → List Step
+abbrev pub move_steps : Size → Fill → Specifier → Specifier → List Microstep
 move_steps size how source destination =
     operands_steps size source destination ++ finish_steps (execute.Move size) how
 
 -- the operand is read, and an operation leaves codes alone
-abbrev pub test_steps : Size → Step → List Step
+abbrev pub test_steps : Size → Microstep → List Microstep
 test_steps size operation = read_step size ∷ operation ∷ store_step ∷ []
 
 -- the operand is read, and the result of an operation is written in its place
-abbrev pub change_steps : Size → ExecuteStep → List Step
+abbrev pub change_steps : Size → ExecuteStep → List Microstep
 change_steps size operation = read_first_step size ∷ finish_steps operation (fill_of size)
 
 -- a register is popped
-abbrev pub pop_steps : ℕ → List Step
+abbrev pub pop_steps : ℕ → List Microstep
 pop_steps r = find_steps Word pop ++ read_step Word ∷ step.Jump (jumping.SetRegister r) ∷ []
 
-abbrev pub jump_to_subroutine_steps : ℕ → Specifier → List Step
+abbrev pub jump_to_subroutine_steps : ℕ → Specifier → List Microstep
 jump_to_subroutine_steps r destination =
     find_steps Word destination
     ++ (step.Jump jumping.Aim ∷ find_steps Word push
     ++ (step.Jump (jumping.TakeLink r) ∷ write_step Whole ∷ step.Jump (jumping.Link r) ∷ []))
 
-abbrev pub from_previous_steps : Specifier → List Step
+abbrev pub from_previous_steps : Specifier → List Microstep
 from_previous_steps source =
     find_steps Word source
     ++ (step.Jump jumping.Cross ∷ read_step Word ∷ keep_step ∷ find_steps Word push
     ++ finish_steps (execute.Move Word) Whole)
 
-abbrev pub to_previous_steps : Specifier → List Step
+abbrev pub to_previous_steps : Specifier → List Microstep
 to_previous_steps destination =
     find_steps Word pop ++ (read_step Word ∷ keep_step ∷ find_steps Word destination
     ++ (step.Jump jumping.Cross ∷ finish_steps (execute.Move Word) Whole))
 
-abbrev pub return_steps : List Step
+abbrev pub return_steps : List Microstep
 return_steps =
     find_steps Word pop ++ (read_step Word ∷ step.Jump jumping.KeepCounter ∷ find_steps Word pop
     ++ (read_step Word ∷ step.Jump jumping.ReturnFromTrap ∷ []))
 
-abbrev pub extended_steps : ExtendedStep → Specifier → List Step
+abbrev pub extended_steps : ExtendedStep → Specifier → List Microstep
 extended_steps operation source =
     find_steps Word source ++ test_steps Word (step.Extended operation)
 
-abbrev pub control_steps : ControlStep → List Step
+abbrev pub control_steps : ControlStep → List Microstep
 control_steps s = step.Control s ∷ []
 
 -- the steps of each action
-abbrev pub steps_of_action : Action → List Step
+abbrev pub steps_of_action : Action → List Microstep
 steps_of_action action.Halt = control_steps control.Halt
 steps_of_action action.Wait = control_steps control.Wait
 steps_of_action action.Reset = control_steps control.Reset

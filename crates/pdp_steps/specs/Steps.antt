@@ -41,8 +41,8 @@ use Rattle.pdp_steps.specs.declared.jump_step.JumpStep.{JumpStep}
 use Rattle.pdp_steps.specs.declared.jump_step.JumpStep.TheVariants as jumping
 use Rattle.pdp_steps.specs.declared.operand_step.OperandStep.{OperandStep}
 use Rattle.pdp_steps.specs.declared.operand_step.OperandStep.TheVariants as operand
-use Rattle.pdp_steps.specs.declared.step.Step.{Step}
-use Rattle.pdp_steps.specs.declared.step.Step.TheVariants as step
+use Rattle.pdp_steps.specs.declared.step.Microstep.{Microstep}
+use Rattle.pdp_steps.specs.declared.step.Microstep.TheVariants as step
 use Rattle.pdp_steps.specs.declared.step_latch.StepLatch.{StepLatch}
 use Rattle.pdp_steps.specs.declared.trap_step.TrapStep.{TrapStep}
 use Rattle.pdp_steps.specs.declared.trap_step.TrapStep.TheVariants as trapping
@@ -132,7 +132,7 @@ phase_of_trap_step (trapping.Save address word) = save address word
 phase_of_trap_step (trapping.EnterRed context) = enter_red context
 phase_of_trap_step (trapping.GiveUp context) = give_up context
 
-abbrev pub phase_of : Step → Phase
+abbrev pub phase_of : Microstep → Phase
 phase_of step.Fetch = fetch_instruction
 phase_of (step.Operand s) = phase_of_operand_step s
 phase_of (step.Execute s) = phase_of_execute_step s
@@ -152,7 +152,7 @@ abbrev pub HasStatus : TrapStep → Type 0
 HasStatus (trapping.ReadStatus vector) = vector < 0o1000
 HasStatus step = Unit {0}
 
-abbrev pub CanRun : Step → StepLatch → Type 0
+abbrev pub CanRun : Microstep → StepLatch → Type 0
 CanRun (step.Operand s) latch = CanWrite s latch
 CanRun (step.Trap s) latch = HasStatus s
 CanRun s latch = Unit {0}
@@ -171,7 +171,7 @@ abbrev pub size_after_jump_step : JumpStep → Size → Size
 size_after_jump_step (jumping.TakeLink r) old = Word
 size_after_jump_step step old = old
 
-abbrev pub size_after : Step → Size → Size
+abbrev pub size_after : Microstep → Size → Size
 size_after (step.Execute s) old = size_after_execute_step s old
 size_after (step.Jump s) old = size_after_jump_step s old
 size_after s old = old

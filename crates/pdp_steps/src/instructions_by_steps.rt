@@ -1,6 +1,6 @@
 //! Instructions that run step by step leave what `instruct` of pdp_instruction leaves.
 
-use crate::step::Step;
+use crate::step::Microstep;
 use crate::step_latch::StepLatch;
 use crate::step_run::{carry_out, run_sequence, run_step};
 use pdp_icache::Lines;
@@ -71,10 +71,10 @@ fn processor_at_start() -> Processor {
 /// The instruction at PC, and the sequence of its trap, if it comes to one.
 fn instruct_by_steps(processor: &mut Processor, bus: &mut TestBus) -> Result<(), Trap> {
     let mut latch = StepLatch::empty();
-    run_step(processor, bus, &mut latch, Step::Fetch)?;
+    run_step(processor, bus, &mut latch, Microstep::Fetch)?;
     match carry_out(processor, bus, &mut latch) {
         Ok(()) => {
-            let note = Step::NoteTrace(latch.instr);
+            let note = Microstep::NoteTrace(latch.instr);
             run_step(processor, bus, &mut latch, note)
         }
         Err(trap) => {

@@ -36,7 +36,7 @@ pub use execute_step::ExecuteStep;
 pub use extended_step::ExtendedStep;
 pub use jump_step::JumpStep;
 pub use operand_step::OperandStep;
-pub use step::Step;
+pub use step::Microstep;
 pub use step_latch::StepLatch;
 pub use step_run::{carry_out, run_red_sequence, run_sequence, run_step, run_steps};
 pub use trap_sequences::{red_steps, sequence_steps};

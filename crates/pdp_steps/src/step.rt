@@ -8,7 +8,7 @@ use pdp_decode::Instr;
 
 /// A phase by its name.
 #[derive(Clone, Copy, Default)]
-pub enum Step {
+pub enum Microstep {
     /// The word at PC is fetched.
     #[default]
     Fetch,

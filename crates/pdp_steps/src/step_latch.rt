@@ -24,7 +24,7 @@ pub struct StepLatch {
 }
 
 impl StepLatch {
-    /// A latch before the first step: no step reads anything of it.
+    /// A latch to begin with. What it holds is arbitrary: a step is its phase from each latch.
     pub fn empty() -> StepLatch {
         StepLatch {
             place: Place::Reg(RegisterId::R0),

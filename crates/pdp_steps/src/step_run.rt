@@ -11,7 +11,7 @@ ghost use Rattle.pdp_steps.specs.Steps.{CanRun, phase_of, size_after};
 
 use crate::action_steps::steps_of;
 use crate::fetch_step::{fetch_instruction, note_trace};
-use crate::step::Step;
+use crate::step::Microstep;
 use crate::step_latch::StepLatch;
 use crate::trap_sequences::{red_steps, sequence_steps};
 use pdp_action::action_of;
@@ -26,7 +26,7 @@ fn run_kind<S: Store, D: Store>(
     processor: &mut Processor,
     bus: &mut Bus<S, D>,
     latch: &mut StepLatch,
-    step: Step,
+    step: Microstep,
 ) -> Result<(), Trap>
     requires { CanRun step latch.old }
     ensures phase { IsPhase (phase_of step) processor.old bus.old latch.old result processor.new
@@ -35,20 +35,20 @@ fn run_kind<S: Store, D: Store>(
         → latch.new.result < span (size_after step size) }
 {
     match step {
-        Step::Fetch => fetch_instruction(processor, bus, latch),
-        Step::Operand(step) => step.run(processor, bus, latch),
-        Step::Execute(step) => {
+        Microstep::Fetch => fetch_instruction(processor, bus, latch),
+        Microstep::Operand(step) => step.run(processor, bus, latch),
+        Microstep::Execute(step) => {
             step.run(processor, bus, latch);
             Ok(())
         }
-        Step::Extended(step) => {
+        Microstep::Extended(step) => {
             step.run(processor, bus, latch);
             Ok(())
         }
-        Step::Control(step) => step.run(processor, bus, latch),
-        Step::Jump(step) => step.run(processor, bus, latch),
-        Step::Trap(step) => step.run(processor, bus, latch),
-        Step::NoteTrace(instr) => {
+        Microstep::Control(step) => step.run(processor, bus, latch),
+        Microstep::Jump(step) => step.run(processor, bus, latch),
+        Microstep::Trap(step) => step.run(processor, bus, latch),
+        Microstep::NoteTrace(instr) => {
             note_trace(processor, bus, latch, instr);
             Ok(())
         }
@@ -66,7 +66,7 @@ pub fn run_step<S: Store, D: Store>(
     processor: &mut Processor,
     bus: &mut Bus<S, D>,
     latch: &mut StepLatch,
-    step: Step,
+    step: Microstep,
 ) -> Result<(), Trap>
     requires { CanRun step latch.old }
     ensures phase { IsStep (phase_of step) processor.old bus.old latch.old result processor.new
@@ -84,7 +84,7 @@ pub fn run_steps<S: Store, D: Store>(
     processor: &mut Processor,
     bus: &mut Bus<S, D>,
     latch: &mut StepLatch,
-    steps: &[Step],
+    steps: &[Microstep],
 ) -> Result<(), Trap>
     requires { AreReady steps.now latch.old.result }
     ensures { ArePhases (map phase_of steps.now) processor.old bus.old latch.old result

@@ -7,14 +7,14 @@ ghost use Rattle.pdp_instruction.specs.Handbook.TrapSequence.{red_plan, trap_pla
 ghost use Rattle.pdp_steps.specs.Contract.{CanRunInOrder};
 ghost use Rattle.pdp_steps.specs.Steps.{phase_of};
 
-use crate::step::Step;
+use crate::step::Microstep;
 use crate::trap_step::TrapStep;
 use pdp_instruction::SavedContext;
 
 /// The steps of the sequence with this vector (octal, bytes), in the order of its plan. `context`
 /// is what it saves; `marks` says whether its pushes may leave a stack trap pending.
 #[tactic(auto, unfolding(crate::proofs::Rules::sequence_plans))]
-pub fn sequence_steps(marks: bool, vector: u16, context: SavedContext) -> [Step; 7]
+pub fn sequence_steps(marks: bool, vector: u16, context: SavedContext) -> [Microstep; 7]
     requires { vector < 0o1000 }
     ensures phases { map phase_of result ≡ phases_of (trap_plan marks vector context) }
     ensures ready { (size : Size) → CanRunInOrder result size }
@@ -22,42 +22,42 @@ pub fn sequence_steps(marks: bool, vector: u16, context: SavedContext) -> [Step;
     let status = context.status.word();
     let counter = context.counter;
     [
-        Step::Trap(TrapStep::ReadCounter { vector }),
-        Step::Trap(TrapStep::ReadStatus { vector }),
-        Step::Trap(TrapStep::LowerStack),
-        Step::Trap(TrapStep::PutWord {
+        Microstep::Trap(TrapStep::ReadCounter { vector }),
+        Microstep::Trap(TrapStep::ReadStatus { vector }),
+        Microstep::Trap(TrapStep::LowerStack),
+        Microstep::Trap(TrapStep::PutWord {
             marks,
             word: status,
         }),
-        Step::Trap(TrapStep::LowerStack),
-        Step::Trap(TrapStep::PutWord {
+        Microstep::Trap(TrapStep::LowerStack),
+        Microstep::Trap(TrapStep::PutWord {
             marks,
             word: counter,
         }),
-        Step::Trap(TrapStep::Enter { context }),
+        Microstep::Trap(TrapStep::Enter { context }),
     ]
 }
 
 /// The steps of the red sequence, in the order of its plan.
 #[tactic(auto, unfolding(crate::proofs::Rules::sequence_plans))]
-pub fn red_steps(context: SavedContext) -> [Step; 6]
+pub fn red_steps(context: SavedContext) -> [Microstep; 6]
     ensures phases { map phase_of result ≡ phases_of (red_plan context) }
     ensures ready { (size : Size) → CanRunInOrder result size }
 {
     let status = context.status.word();
     let counter = context.counter;
     [
-        Step::Trap(TrapStep::BareStack),
-        Step::Trap(TrapStep::ReadCounter { vector: 4 }),
-        Step::Trap(TrapStep::ReadStatus { vector: 4 }),
-        Step::Trap(TrapStep::Save {
+        Microstep::Trap(TrapStep::BareStack),
+        Microstep::Trap(TrapStep::ReadCounter { vector: 4 }),
+        Microstep::Trap(TrapStep::ReadStatus { vector: 4 }),
+        Microstep::Trap(TrapStep::Save {
             address: 2,
             word: status,
         }),
-        Step::Trap(TrapStep::Save {
+        Microstep::Trap(TrapStep::Save {
             address: 0,
             word: counter,
         }),
-        Step::Trap(TrapStep::EnterRed { context }),
+        Microstep::Trap(TrapStep::EnterRed { context }),
     ]
 }
