@@ -191,8 +191,8 @@ SEARCHES = [
 ]
 # What a CONDITION is, in which W is an octal word, and the words of it before an address.
 CONDITIONS = (
-    "one to four of these with 'and' between them: X = W, X != W, X < W, X > W, X & W = W, at A, "
-    "kernel or user. X is R0 to R5, KSP, USP, SP, PC, PS or core A"
+    "one to four of these with 'and' between them: X = Y, X != Y, X < Y, X > Y, X & W = W, at A, "
+    "kernel or user. X is R0 to R5, KSP, USP, SP, PC, PS or core A; Y is such an X or W"
 )
 BEFORE_ADDRESS = ("at", "core")
 # The events that `at` and `alter` name, each with the letter of its number, if it has one.

@@ -70,17 +70,19 @@ def one_condition(system: System, words: list[str]) -> Condition:
     if words[0] in MODES:
         return lambda turn: is_mode(system, turn, words[0])
     left = words[: 2 if words[0] == "core" else 1]
-    operator, *numbers = words[len(left) :]
-    wanted = int(numbers[-1], 8)
-    mask = int(numbers[0], 8) if operator == "&" else 0o177777
-    compare = OPERATORS["=" if operator == "&" else operator]
-    return lambda turn: compare(value(system, turn, left) & mask, wanted)
+    operator, *right = words[len(left) :]
+    if operator == "&":
+        mask, wanted = int(right[0], 8), int(right[2], 8)
+        return lambda turn: value(system, turn, left) & mask == wanted
+    compare = OPERATORS[operator]
+    return lambda turn: compare(value(system, turn, left), value(system, turn, right))
 
 
 def value(system: System, turn: int, words: list[str]) -> int:
+    """The word of core, the register, or the number."""
     if words[0] == "core":
         return system.core(turn, int(words[1], 8))
-    return system.registers(turn)[words[0]]
+    return int(words[0], 8) if words[0].isdigit() else system.registers(turn)[words[0]]
 
 
 def runs(system: System, turn: int, address: int) -> bool:

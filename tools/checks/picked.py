@@ -3,6 +3,7 @@ picks from a fixed seed, and with those at the edges."""
 import random
 from typing import Sequence, TypeVar
 
+from checks.computed import OPERATORS
 from checks.places import REGISTERS_AT
 from checks.systems import WORDS_OF_PAGE, System
 from checks.traps import trap_of
@@ -151,19 +152,30 @@ class Picker:
         return lines
 
     def condition(self, turn: int) -> str:
-        kind = self.chance.randrange(10)
+        kind = self.chance.randrange(12)
         if kind == 0:
             return f"at {self.system.acts[turn][0]:o}"
         if kind == 1:
             return self.chance.choice([*MODES, self.mode_before(turn)])
-        if kind < 5:
+        left, word = self.quantity(turn)
+        if kind < 4:
+            right, other = self.quantity(turn)
+            return f"{left} {self.relation(word, other)} {right}"
+        return f"{left} {self.compared(word)}"
+
+    def quantity(self, turn: int) -> tuple[str, int]:
+        """A word of core or a register, and about what it is before the turn."""
+        if self.chance.randrange(8) < 3:
             address = self.chance.choice(self.words)
             near = min(self.whole, key=lambda it: abs(it - turn))
-            left, word = f"core {address:o}", self.system.core_in_page(near, address)
-        else:
-            left = self.chance.choice(REGISTERS)
-            word = self.system.registers(turn)[left]
-        return f"{left} {self.compared(word)}"
+            return f"core {address:o}", self.system.core_in_page(near, address)
+        register = self.chance.choice(REGISTERS)
+        return register, self.system.registers(turn)[register]
+
+    def relation(self, word: int, other: int) -> str:
+        """An operator, mostly one by which the words agree."""
+        true = [it for it, holds in OPERATORS.items() if holds(word, other)]
+        return self.chance.choice(true * 4 + list(OPERATORS))
 
     def compared(self, word: int) -> str:
         """An operator and a number, with which the word mostly agrees."""

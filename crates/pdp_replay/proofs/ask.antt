@@ -2,6 +2,7 @@ pub mod LastWrites
 pub mod Trails
 pub mod Searches
 pub mod TurnConditions
+pub mod RegisterTests
 pub mod SoughtTurns
 pub mod ListedTurns
 pub mod ListedWrites

@@ -11,6 +11,7 @@ pub mod Searches
 pub mod Listed
 pub mod Writes
 pub mod TurnConditions
+pub mod RegisterTests
 pub mod SoughtTurns
 pub mod Counts
 pub mod TextParts

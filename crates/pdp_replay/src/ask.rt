@@ -13,6 +13,7 @@ mod last_write;
 mod patch_fading;
 mod question;
 mod reads;
+mod register_test;
 mod search;
 mod search_turns;
 mod sought;
@@ -36,6 +37,8 @@ pub use sought::Sought;
 pub use text_part::TextKind;
 pub use told::Told;
 pub use trail::{Trail, TrailEntry};
-pub use turn_condition::{MOST_CONDITIONS, Quantity, Relation, TurnCondition, TurnConditions};
+pub use turn_condition::{
+    Comparand, MOST_CONDITIONS, Quantity, Relation, TurnCondition, TurnConditions,
+};
 pub use virtual_words::{Cause, Unreadable, VirtualWords};
 pub use writes::Written;

@@ -67,10 +67,11 @@ mod past;
 mod run;
 
 pub use ask::{
-    AccessesFound, Bytes, Cause, CompletionsFound, CountedWords, DiskCompletion, DiskTurn,
-    FoundWords, Items, LastWrite, MOST_CONDITIONS, Numbers, Quantity, Question, ReadsFound,
-    Relation, Sought, TextKind, Told, Trail, TrailEntry, TurnCondition, TurnConditions, TurnDetail,
-    TurnHead, Unreadable, Value, VirtualWords, WantedWords, WordPattern, WordRead, Words, Written,
+    AccessesFound, Bytes, Cause, Comparand, CompletionsFound, CountedWords, DiskCompletion,
+    DiskTurn, FoundWords, Items, LastWrite, MOST_CONDITIONS, Numbers, Quantity, Question,
+    ReadsFound, Relation, Sought, TextKind, Told, Trail, TrailEntry, TurnCondition, TurnConditions,
+    TurnDetail, TurnHead, Unreadable, Value, VirtualWords, WantedWords, WordPattern, WordRead,
+    Words, Written,
 };
 pub use engine::Engine;
 pub use laws::{

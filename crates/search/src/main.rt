@@ -29,8 +29,9 @@ const LINES: &str = "
 Lines of searches (A, B, D, I, J, K, V and W are octal; C, F, M and N are
 decimal). With N and M the turns from N on and before M are searched; F is a
 byte, counted from 0; MODE is kernel or user. A CONDITION is one to four of
-these with 'and' between them: X = W, X != W, X < W, X > W, X & W = W, at A,
-kernel or user. X is R0 to R5, KSP, USP, SP, PC, PS or core A:
+these with 'and' between them: X = Y, X != Y, X < Y, X > Y, X & W = W, at A,
+kernel or user. X is R0 to R5, KSP, USP, SP, PC, PS or core A; Y is such an X
+or W:
   first N M at A              the first turn that runs the instruction at A
   first N M at A MODE         the same in one mode of the processor
   first N M vector V          the first turn that serves an interrupt through V

@@ -10,9 +10,10 @@ use Rattle.pdp_operand.specs.declared.processor.RegisterId.TheVariants.{ProgramC
 use Rattle.pdp_cpu.specs.Turns.CalmTurns.{PassesNone, WordStays, after_calm_turns}
 use Rattle.pdp_cpu.proofs.CalmTurns.{size_stays}
 use Rattle.pdp_cpu.specs.Handbook.MachineState.{MachineWithTexts}
-use Rattle.pdp_replay.specs.Ask.TurnConditions.{AreUnmet, address_asked, all_met_in, checked_if_there, conditions_checked, is_met_in, is_related, is_there_with, quantity_in, unmet_word, word_of_condition, word_of_quantity}
+use Rattle.pdp_replay.specs.Ask.TurnConditions.{AreUnmet, address_asked, all_met_in, are_related, checked_if_there, conditions_checked, is_met_in, is_there_with, quantity_in, unmet_word, word_of_condition, word_of_quantity}
 use Rattle.pdp_replay.specs.Ask.Writes.{then_checked}
 use Rattle.pdp_replay.specs.Past.Setup.{SetupData}
+use Rattle.pdp_replay.specs.declared.ask.turn_condition.Comparand.TheVariants as comparand
 use Rattle.pdp_replay.specs.declared.ask.turn_condition.Quantity.{Quantity}
 use Rattle.pdp_replay.specs.declared.ask.turn_condition.Quantity.TheVariants as quantity
 use Rattle.pdp_replay.specs.declared.ask.turn_condition.TurnCondition.{TurnCondition}
@@ -30,8 +31,8 @@ unmet_elsewhere (None ∷ others) address w asked elsewhere = unmet_elsewhere ot
 unmet_elsewhere (Some (condition.At there) ∷ others) address w asked elsewhere =
     ap (λ met. met && all_met_in others w)
     (subst (λ a. (register_of w.processor ProgramCounter == a) ≡ false) (sym (same_address there address asked)) elsewhere)
-unmet_elsewhere (Some (condition.Compared quantity relation word) ∷ others) address w asked elsewhere =
-    and_right (is_met_in (condition.Compared quantity relation word) w) (all_met_in others w) (unmet_elsewhere others address w asked elsewhere)
+unmet_elsewhere (Some (condition.Compared quantity relation comparand) ∷ others) address w asked elsewhere =
+    and_right (is_met_in (condition.Compared quantity relation comparand) w) (all_met_in others w) (unmet_elsewhere others address w asked elsewhere)
 unmet_elsewhere (Some (condition.Masked quantity mask word) ∷ others) address w asked elsewhere =
     and_right (is_met_in (condition.Masked quantity mask word) w) (all_met_in others w) (unmet_elsewhere others address w asked elsewhere)
 unmet_elsewhere (Some (condition.InMode mode) ∷ others) address w asked elsewhere =
@@ -68,8 +69,9 @@ same_quantity (quantity.CoreWord address) number v w on same =
 -- so a condition on it is met in both or in none
 same_met : (c : TurnCondition) (number : ℕ) (v w : World) → word_of_condition c ≡ Some number
     → slice_get w.bus.core number ≡ slice_get v.bus.core number → is_met_in c w ≡ is_met_in c v
-same_met (condition.Compared q relation word) number v w on same =
-    ap (is_there_with (λ now. is_related relation now word)) (same_quantity q number v w on same)
+same_met (condition.Compared q relation (comparand.Number word)) number v w on same =
+    ap (λ now. are_related relation now (Some word)) (same_quantity q number v w on same)
+same_met (condition.Compared q relation (comparand.Other other)) number v w on same = absurd (cc on)
 same_met (condition.Masked q mask word) number v w on same =
     ap (is_there_with (λ now. bit_and now mask == word)) (same_quantity q number v w on same)
 same_met (condition.At there) number v w on same = absurd (cc on)

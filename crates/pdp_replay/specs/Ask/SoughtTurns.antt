@@ -22,7 +22,8 @@ use Rattle.pdp_replay.specs.declared.ask.sought.Sought.{Sought}
 use Rattle.pdp_replay.specs.declared.ask.sought.Sought.TheVariants.{Instruction, Interrupt}
 use Rattle.pdp_replay.specs.declared.ask.sought.Sought.TheVariants.{PendingTrap, Trap, Where}
 use Rattle.pdp_replay.specs.Ask.Searches.{search_checked}
-use Rattle.pdp_replay.specs.Ask.TurnConditions.{all_fit, all_met_in, all_stepped}
+use Rattle.pdp_replay.specs.Ask.TurnConditions.{all_fit, all_met_in}
+use Rattle.pdp_replay.specs.Ask.RegisterTests.{all_stepped}
 use Rattle.pdp_replay.specs.Ask.TurnConditions.{conditions_checked, is_instruction}
 use Rattle.pdp_replay.specs.Ask.Writes.{then_checked}
 

@@ -1,6 +1,6 @@
 -- Conditions on a turn: on the state of the machine before it, and on its act [P].
 use Rattle.std.specs.Prelude.{ℕ, ◌≡◌, ◌<◌, ◌/◌, ◌==◌, Bool, true, false, not, nat_lt, bit_and, List}
-use Rattle.std.specs.Prelude.{[], ◌∷◌, Option, None, Some, is_none, slice_get, Result, Ok}
+use Rattle.std.specs.Prelude.{[], ◌∷◌, Option, None, Some, slice_get, Result, Ok}
 use Rattle.std.specs.Prelude.{if◌then◌else◌}
 use Rattle.std.specs.List.{list_all}
 use Rattle.std.specs.Option.{option_or}
@@ -19,6 +19,8 @@ use Rattle.pdp_script.specs.declared.faults.Fault.{Fault}
 use Rattle.pdp_replay.specs.Past.Edit.{core_word_at}
 use Rattle.pdp_replay.specs.Past.Setup.{SetupData}
 use Rattle.pdp_replay.specs.Ask.Writes.{then_checked}
+use Rattle.pdp_replay.specs.declared.ask.turn_condition.Comparand.{Comparand}
+use Rattle.pdp_replay.specs.declared.ask.turn_condition.Comparand.TheVariants as comparand
 use Rattle.pdp_replay.specs.declared.ask.turn_condition.Quantity.{Quantity}
 use Rattle.pdp_replay.specs.declared.ask.turn_condition.Quantity.TheVariants as quantity
 use Rattle.pdp_replay.specs.declared.ask.turn_condition.Relation.{Relation}
@@ -49,6 +51,17 @@ is_related relation.Unequal a b = not (a == b)
 is_related relation.Below a b = nat_lt a b
 is_related relation.Above a b = nat_lt b a
 
+-- are two words there, and in this relation?
+abbrev pub are_related : Relation → Option ℕ → Option ℕ → Bool
+are_related relation None second = false
+are_related relation (Some a) None = false
+are_related relation (Some a) (Some b) = is_related relation a b
+
+-- the word that a quantity is compared with
+abbrev pub comparand_in : Comparand → World → Option ℕ
+comparand_in (comparand.Number word) w = Some word
+comparand_in (comparand.Other quantity) w = quantity_in quantity w
+
 -- is a word there, and has it the property?
 abbrev pub is_there_with : (ℕ → Bool) → Option ℕ → Bool
 is_there_with holds None = false
@@ -56,8 +69,8 @@ is_there_with holds (Some word) = holds word
 
 -- does the world before a turn meet a condition?
 abbrev pub is_met_in : TurnCondition → World → Bool
-is_met_in (condition.Compared quantity relation word) w =
-    is_there_with (λ now. is_related relation now word) (quantity_in quantity w)
+is_met_in (condition.Compared quantity relation comparand) w =
+    are_related relation (quantity_in quantity w) (comparand_in comparand w)
 is_met_in (condition.Masked quantity mask word) w =
     is_there_with (λ now. bit_and now mask == word) (quantity_in quantity w)
 is_met_in (condition.At address) w = register_of w.processor register.ProgramCounter == address
@@ -98,25 +111,21 @@ unfoldable pub address_asked : List (Option TurnCondition) → Option ℕ
 address_asked [] = None
 address_asked (condition ∷ others) = option_or (address_if_there condition) (address_asked others)
 
--- the number of the core word that a condition is on, if it is on one
+-- the number of the core word that a condition is on, if it is on one; of two quantities either may
+-- change
 abbrev pub word_of_quantity : Quantity → Option ℕ
 word_of_quantity (quantity.CoreWord address) = Some (address / 2)
 word_of_quantity _ = None
 
+abbrev pub word_compared : Comparand → Quantity → Option ℕ
+word_compared (comparand.Number word) quantity = word_of_quantity quantity
+word_compared (comparand.Other other) quantity = None
+
 abbrev pub word_of_condition : TurnCondition → Option ℕ
-word_of_condition (condition.Compared quantity relation word) = word_of_quantity quantity
+word_of_condition (condition.Compared quantity relation comparand) =
+    word_compared comparand quantity
 word_of_condition (condition.Masked quantity mask word) = word_of_quantity quantity
 word_of_condition _ = None
-
--- is a condition, if there is one, on neither the address of an instruction nor a word of core? A
--- search for such conditions alone looks at each turn
-abbrev pub is_stepped_if_there : Option TurnCondition → Bool
-is_stepped_if_there None = true
-is_stepped_if_there (Some (condition.At address)) = false
-is_stepped_if_there (Some other) = is_none (word_of_condition other)
-
-abbrev pub all_stepped : List (Option TurnCondition) → Bool
-all_stepped conditions = list_all is_stepped_if_there conditions
 
 -- the same, if there is a condition and a world doesn't meet it: until the word changes none does
 abbrev pub unmet_word_if_there : Option TurnCondition → World → Option ℕ
@@ -135,9 +144,15 @@ abbrev pub quantity_checked : Quantity → SetupData → Result (Unit {0}) Fault
 quantity_checked (quantity.CoreWord address) s = result_map (λ _. tt) (core_word_at address s)
 quantity_checked _ s = Ok tt
 
+-- is what a quantity is compared with there?
+abbrev pub comparand_checked : Comparand → SetupData → Result (Unit {0}) Fault
+comparand_checked (comparand.Number word) s = Ok tt
+comparand_checked (comparand.Other quantity) s = quantity_checked quantity s
+
 -- can a condition be asked?
 abbrev pub condition_checked : TurnCondition → SetupData → Result (Unit {0}) Fault
-condition_checked (condition.Compared quantity relation word) s = quantity_checked quantity s
+condition_checked (condition.Compared quantity relation comparand) s =
+    then_checked (quantity_checked quantity s) (comparand_checked comparand s)
 condition_checked (condition.Masked quantity mask word) s = quantity_checked quantity s
 condition_checked _ s = Ok tt
 

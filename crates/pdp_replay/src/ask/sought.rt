@@ -8,8 +8,9 @@ ghost use Rattle.pdp_replay.specs.Ask.SoughtTurns.{is_state_sought, is_trap_thro
 ghost use Rattle.pdp_replay.specs.Ask.SoughtTurns.{sought_checked, NoneIsSought};
 ghost use Rattle.pdp_replay.specs.Ask.TurnConditions.{is_instruction, AreUnmet};
 
+use crate::ask::register_test::{are_stepped, unmet_register};
 use crate::ask::turn_condition::{
-    TurnConditions, address_of, are_for, are_met_by, are_stepped, check_conditions, unmet_word,
+    TurnConditions, address_of, are_for, are_met_by, check_conditions, unmet_word,
 };
 use pdp_cpu::{Act, ActWithTrap, Meter, Mode, PagedMachine, WordTable};
 use pdp_script::Fault;
@@ -121,7 +122,8 @@ impl Sought {
 
 /// `Sought::pass` for conditions: with one on the address of an instruction, turns that begin with
 /// PC elsewhere; otherwise, with one on a word of core that isn't met, turns up to the first that
-/// writes the word; otherwise none.
+/// writes the word; otherwise, with one on a register that isn't met, turns before which it isn't;
+/// otherwise none.
 fn pass_unmet(
     conditions: TurnConditions,
     machine: &mut PagedMachine,
@@ -156,12 +158,33 @@ fn pass_same_word(
     ensures counted { Counts result meter.old meter.new }
 {
     let Some(number) = unmet_word(conditions, machine) else {
-        return pass_none(meter);
+        return pass_unmet_register(conditions, machine, words, meter, to);
     };
     if number >= machine.core_len() {
         return pass_none(meter);
     }
     machine.run_calmly_to_write(words, meter, to, number)
+}
+
+/// `Sought::pass` for conditions of which none is on the address of an instruction, or on a word of
+/// core and isn't met.
+fn pass_unmet_register(
+    conditions: TurnConditions,
+    machine: &mut PagedMachine,
+    words: &WordTable,
+    meter: &mut Meter,
+    to: u32,
+) -> u32
+    ensures turns { machine.new ≡ after_calm_turns result machine.old }
+    ensures turn { machine.new.state.turn ≡ machine.old.state.turn + result }
+    ensures most { 0 < result → machine.new.state.turn ≤ to }
+    ensures none { AreUnmet conditions result machine.old }
+    ensures counted { Counts result meter.old meter.new }
+{
+    match unmet_register(conditions, machine) {
+        Some(test) => machine.run_calmly_while(words, meter, to, &test),
+        None => pass_none(meter),
+    }
 }
 
 /// Runs no turn.

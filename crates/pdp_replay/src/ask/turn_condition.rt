@@ -2,15 +2,18 @@
 
 ghost use Rattle.std.specs.Prelude.{◌≡◌, Some};
 ghost use Rattle.pdp_replay.specs.Past.Setup.{SetupData};
+ghost use Rattle.pdp_replay.specs.Ask.Writes.{then_checked};
 ghost use Rattle.pdp_replay.specs.Ask.TurnConditions.{address_asked, address_if_there, all_fit};
-ghost use Rattle.pdp_replay.specs.Ask.TurnConditions.{all_met_in, all_stepped};
-ghost use Rattle.pdp_replay.specs.Ask.TurnConditions.{checked_if_there, condition_checked};
+ghost use Rattle.pdp_replay.specs.Ask.TurnConditions.{all_met_in, are_related};
+ghost use Rattle.pdp_replay.specs.Ask.TurnConditions.{checked_if_there, comparand_checked};
+ghost use Rattle.pdp_replay.specs.Ask.TurnConditions.{comparand_in, condition_checked};
 ghost use Rattle.pdp_replay.specs.Ask.TurnConditions.{conditions_checked, fits};
 ghost use Rattle.pdp_replay.specs.Ask.TurnConditions.{fits_if_there, is_met_if_there, is_met_in};
-ghost use Rattle.pdp_replay.specs.Ask.TurnConditions.{is_related, is_stepped_if_there};
+ghost use Rattle.pdp_replay.specs.Ask.TurnConditions.{is_related};
 ghost use Rattle.pdp_replay.specs.Ask.TurnConditions.{quantity_checked, quantity_in};
 ghost use Rattle.pdp_replay.specs.Ask.TurnConditions.{unmet_word, unmet_word_if_there};
-ghost use Rattle.pdp_replay.specs.Ask.TurnConditions.{word_of_condition, word_of_quantity};
+ghost use Rattle.pdp_replay.specs.Ask.TurnConditions.{word_compared, word_of_condition};
+ghost use Rattle.pdp_replay.specs.Ask.TurnConditions.{word_of_quantity};
 
 use crate::ask::sought::is_instruction;
 use crate::past::core_word;
@@ -26,11 +29,11 @@ pub type TurnConditions = [Option<TurnCondition>; MOST_CONDITIONS];
 /// A condition on a turn [P].
 #[derive(Clone, Copy)]
 pub enum TurnCondition {
-    /// Before the turn the quantity is in this relation to the word.
+    /// Before the turn the quantity is in this relation to the comparand.
     Compared {
         quantity: Quantity,
         relation: Relation,
-        word: u16,
+        comparand: Comparand,
     },
     /// Before the turn the quantity, in the bits of the mask alone, is the word.
     Masked {
@@ -71,6 +74,15 @@ pub enum Quantity {
     CoreWord { address: u32 },
 }
 
+/// What a condition compares a quantity with.
+#[derive(Clone, Copy)]
+pub enum Comparand {
+    /// This word.
+    Number(u16),
+    /// Another quantity of the same machine, before the same turn.
+    Other(Quantity),
+}
+
 /// How a condition compares two words, as whole numbers without sign.
 #[derive(Clone, Copy)]
 pub enum Relation {
@@ -84,7 +96,7 @@ pub enum Relation {
 
 impl Relation {
     /// Whether two words are in this relation.
-    fn holds(self, first: u16, second: u16) -> bool
+    pub(crate) fn holds(self, first: u16, second: u16) -> bool
         ensures { result ≡ is_related self first second }
     {
         match self {
@@ -93,6 +105,19 @@ impl Relation {
             Relation::Below => first < second,
             Relation::Above => second < first,
         }
+    }
+}
+
+/// Whether two words are there, and in this relation.
+fn are_related(relation: Relation, first: Option<u16>, second: Option<u16>) -> bool
+    ensures { result ≡ are_related relation first second }
+{
+    match first {
+        Some(first) => match second {
+            Some(second) => relation.holds(first, second),
+            None => false,
+        },
+        None => false,
     }
 }
 
@@ -169,31 +194,78 @@ impl Quantity {
     }
 }
 
+impl Comparand {
+    /// The word that a quantity is compared with; None for a word past the end of core.
+    fn read(self, machine: &PagedMachine) -> Option<u16>
+        ensures { result ≡ comparand_in self machine.now.state.world }
+    {
+        match self {
+            Comparand::Number(word) => Some(word),
+            Comparand::Other(quantity) => quantity.read(machine),
+        }
+    }
+
+    /// Whether it is there in a run with `units` units of core.
+    ///
+    /// Err as `Quantity::check` has it.
+    fn check(self, units: u8) -> Result<(), Fault>
+        ensures refusal { (s : SetupData) → s.units ≡ units → comparand_checked self s ≡ result }
+    {
+        match self {
+            Comparand::Number(_) => Ok(()),
+            Comparand::Other(quantity) => quantity.check(units),
+        }
+    }
+}
+
+/// The number of the core word that a comparison with this comparand is on, if it is on one.
+fn word_compared(quantity: Quantity, comparand: Comparand) -> Option<usize>
+    ensures { result ≡ word_compared comparand quantity }
+{
+    match comparand {
+        Comparand::Number(_) => quantity.word(),
+        Comparand::Other(_) => None,
+    }
+}
+
+/// Whether both sides of a comparison are there in a run with `units` units of core.
+///
+/// Err, of the first that isn't, as `Quantity::check` has it.
+fn check_both(quantity: Quantity, comparand: Comparand, units: u8) -> Result<(), Fault>
+    ensures refusal { (s : SetupData) → s.units ≡ units
+        → then_checked (quantity_checked quantity s) (comparand_checked comparand s) ≡ result }
+{
+    quantity.check(units)?;
+    comparand.check(units)
+}
+
 impl TurnCondition {
-    /// The number of the core word that the condition is on, if it is on one.
-    fn word(self) -> Option<usize>
+    /// The number of the core word that the condition is on, if it is on one: as long as the word
+    /// stays, the condition stays met or unmet.
+    pub(crate) fn word(self) -> Option<usize>
         ensures { result ≡ word_of_condition self }
     {
         match self {
-            TurnCondition::Compared { quantity, .. } => quantity.word(),
+            TurnCondition::Compared {
+                quantity,
+                comparand,
+                ..
+            } => word_compared(quantity, comparand),
             TurnCondition::Masked { quantity, .. } => quantity.word(),
             TurnCondition::At { .. } | TurnCondition::InMode(_) => None,
         }
     }
 
     /// Whether the machine before a turn meets the condition; the turn's act isn't looked at.
-    fn is_met_by(self, machine: &PagedMachine) -> bool
+    pub(crate) fn is_met_by(self, machine: &PagedMachine) -> bool
         ensures { result ≡ is_met_in self machine.now.state.world }
     {
         match self {
             TurnCondition::Compared {
                 quantity,
                 relation,
-                word,
-            } => match quantity.read(machine) {
-                Some(now) => relation.holds(now, word),
-                None => false,
-            },
+                comparand,
+            } => are_related(relation, quantity.read(machine), comparand.read(machine)),
             TurnCondition::Masked {
                 quantity,
                 mask,
@@ -214,9 +286,12 @@ impl TurnCondition {
         ensures refusal { (s : SetupData) → s.units ≡ units → condition_checked self s ≡ result }
     {
         match self {
-            TurnCondition::Compared { quantity, .. } | TurnCondition::Masked { quantity, .. } => {
-                quantity.check(units)
-            }
+            TurnCondition::Compared {
+                quantity,
+                comparand,
+                ..
+            } => check_both(quantity, comparand, units),
+            TurnCondition::Masked { quantity, .. } => quantity.check(units),
             TurnCondition::At { .. } | TurnCondition::InMode(_) => Ok(()),
         }
     }
@@ -299,30 +374,6 @@ fn address_if_there(condition: Option<TurnCondition>) -> Option<u16>
     match condition {
         Some(TurnCondition::At { address }) => Some(address),
         _ => None,
-    }
-}
-
-/// Whether a search for these conditions looks at each turn: none is on the address of an
-/// instruction or on a word of core.
-pub(crate) fn are_stepped(conditions: TurnConditions) -> bool
-    ensures { result ≡ all_stepped conditions }
-{
-    let [first, second, third, fourth] = conditions;
-    is_stepped_if_there(first)
-        && is_stepped_if_there(second)
-        && is_stepped_if_there(third)
-        && is_stepped_if_there(fourth)
-}
-
-/// Whether a condition, if there is one, is on neither the address of an instruction nor a word of
-/// core.
-fn is_stepped_if_there(condition: Option<TurnCondition>) -> bool
-    ensures { result ≡ is_stepped_if_there condition }
-{
-    match condition {
-        Some(TurnCondition::At { .. }) => false,
-        Some(condition) => condition.word().is_none(),
-        None => true,
     }
 }
 

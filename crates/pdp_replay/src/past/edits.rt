@@ -110,7 +110,8 @@ impl Engine {
 
     /// Gives the event of this number another turn and event: at the same turn it keeps its place,
     /// at another it goes last among those of the turn. The known turn becomes at most the lesser
-    /// of both turns; no turn is run. It needs no memory.
+    /// of both turns; no turn is run. It asks memory only for what it sets aside of later turns: if
+    /// that is refused it goes on without, and isn't refused.
     ///
     /// Err(TurnTooLarge) at a turn above 1,000,000,000; else Err(NoSuchEvent) if no event has this
     /// number. A refused edit changes nothing. [P]
@@ -129,7 +130,8 @@ impl Engine {
     }
 
     /// Takes the event of this number out of the script. Its number is never given again. The known
-    /// turn becomes at most its turn; no turn is run. It needs no memory.
+    /// turn becomes at most its turn; no turn is run. It asks memory only for what it sets aside of
+    /// later turns: if that is refused it goes on without, and isn't refused.
     ///
     /// Err(NoSuchEvent) if no event has this number; nothing changes then. [P]
     #[tactic(auto, unfolding(crate::specs::Past::Edit::event_drop))]

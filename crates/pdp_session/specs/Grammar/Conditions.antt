@@ -1,9 +1,11 @@
 -- The conditions of a search for turns [P]: words in octal, and relations, each a word of its own.
 use Rattle.std.specs.Prelude.{ℕ, if◌then◌else◌, List, [], ◌∷◌, codes, Option, None, Some}
-use Rattle.std.specs.Option.{option_map}
+use Rattle.std.specs.Option.{option_map, option_or}
 use Rattle.std.specs.Str.{bytes_eq}
 use Rattle.pdp_word.specs.Number.{number_of}
 use Rattle.pdp_kt11.specs.declared.mode.Mode.TheVariants.{Kernel, User}
+use Rattle.pdp_replay.specs.declared.ask.turn_condition.Comparand.{Comparand}
+use Rattle.pdp_replay.specs.declared.ask.turn_condition.Comparand.TheVariants.{Number, Other}
 use Rattle.pdp_replay.specs.declared.ask.turn_condition.Quantity.{Quantity}
 use Rattle.pdp_replay.specs.declared.ask.turn_condition.Quantity.TheVariants as quantity
 use Rattle.pdp_replay.specs.declared.ask.turn_condition.Relation.{Relation}
@@ -47,14 +49,25 @@ quantity_first words = do
         Some (quantity.CoreWord address, after))
       else option_map (λ register. (register, others)) (register_named name)
 
--- `= W` and so on
+-- `W`, with the words after it
+abbrev pub number_first : List (List ℕ) → Option (Comparand × List (List ℕ))
+number_first words = do
+  (number, after) ← first_of words
+  word ← word_named number
+  Some (Number word, after)
+
+-- `W`, or a quantity
+unfoldable pub comparand_first : List (List ℕ) → Option (Comparand × List (List ℕ))
+comparand_first words = option_or (number_first words)
+    (option_map (λ found. (Other found.0, found.1)) (quantity_first words))
+
+-- `= W`, `= X` and so on
 abbrev pub compared_first : Quantity → List (List ℕ) → Option (TurnCondition × List (List ℕ))
 compared_first quantity words = do
   (name, others) ← first_of words
-  (number, after) ← first_of others
   relation ← relation_named name
-  word ← word_named number
-  Some (condition.Compared quantity relation word, after)
+  (comparand, after) ← comparand_first others
+  Some (condition.Compared quantity relation comparand, after)
 
 -- `W = W`
 unfoldable pub masked_first : Quantity → List (List ℕ) → Option (TurnCondition × List (List ℕ))
@@ -66,7 +79,7 @@ masked_first quantity words = do
   word ← word_named number
   if bytes_eq equals (codes "=") then Some (condition.Masked quantity mask word, after) else None
 
--- `X = W`, `X != W`, `X < W`, `X > W`, `X & W = W`
+-- `X = W`, `X != W`, `X < W`, `X > W`, with a quantity in place of W too; `X & W = W`
 unfoldable pub comparison_first : List (List ℕ) → Option (TurnCondition × List (List ℕ))
 comparison_first words = do
   (quantity, others) ← quantity_first words

@@ -3,16 +3,17 @@
 ghost use Rattle.std.specs.Prelude.{◌≡◌};
 ghost use Rattle.std.specs.Option.{option_map};
 ghost use Rattle.pdp_session.specs.Grammar.Conditions.{address_first, and_condition_first};
-ghost use Rattle.pdp_session.specs.Grammar.Conditions.{compared_first, comparison_first};
-ghost use Rattle.pdp_session.specs.Grammar.Conditions.{condition_first, conditions_named};
-ghost use Rattle.pdp_session.specs.Grammar.Conditions.{masked_first, quantity_first};
+ghost use Rattle.pdp_session.specs.Grammar.Conditions.{comparand_first, compared_first};
+ghost use Rattle.pdp_session.specs.Grammar.Conditions.{comparison_first, condition_first};
+ghost use Rattle.pdp_session.specs.Grammar.Conditions.{conditions_named, masked_first};
+ghost use Rattle.pdp_session.specs.Grammar.Conditions.{number_first, quantity_first};
 ghost use Rattle.pdp_session.specs.Grammar.Conditions.{register_named, relation_named};
 ghost use Rattle.pdp_session.specs.Grammar.Words.{words_of_line};
 
 use super::arguments::read_word;
 use super::words::next_word;
 use pdp_kt11::Mode;
-use pdp_replay::{Quantity, Relation, TurnCondition, TurnConditions};
+use pdp_replay::{Comparand, Quantity, Relation, TurnCondition, TurnConditions};
 use pdp_word::read_octal;
 
 /// A register, by its name.
@@ -81,19 +82,43 @@ fn read_quantity(text: &[u8]) -> Option<(Quantity, &[u8])>
     Some((register, others))
 }
 
-/// `= W` and so on, with the words after it.
+/// `W`, with the words after it.
+fn read_number(text: &[u8]) -> Option<(Comparand, &[u8])>
+    ensures { option_map (λ found. (found.0, words_of_line found.1.now)) result
+        ≡ number_first (words_of_line text.now) }
+{
+    let (number, after) = next_word(text)?;
+    let word = read_word(number)?;
+    Some((Comparand::Number(word), after))
+}
+
+/// `W`, or a quantity, with the words after it.
+#[tactic(auto, unfolding(crate::specs::Grammar::Conditions::comparand_first))]
+fn read_comparand(text: &[u8]) -> Option<(Comparand, &[u8])>
+    ensures { option_map (λ found. (found.0, words_of_line found.1.now)) result
+        ≡ comparand_first (words_of_line text.now) }
+{
+    match read_number(text) {
+        Some(found) => Some(found),
+        None => {
+            let (quantity, after) = read_quantity(text)?;
+            Some((Comparand::Other(quantity), after))
+        }
+    }
+}
+
+/// `= W`, `= X` and so on, with the words after it.
 fn read_compared(quantity: Quantity, text: &[u8]) -> Option<(TurnCondition, &[u8])>
     ensures { option_map (λ found. (found.0, words_of_line found.1.now)) result
         ≡ compared_first quantity (words_of_line text.now) }
 {
     let (name, others) = next_word(text)?;
-    let (number, after) = next_word(others)?;
     let relation = read_relation(name)?;
-    let word = read_word(number)?;
+    let (comparand, after) = read_comparand(others)?;
     let condition = TurnCondition::Compared {
         quantity,
         relation,
-        word,
+        comparand,
     };
     Some((condition, after))
 }
@@ -120,7 +145,8 @@ fn read_masked(quantity: Quantity, text: &[u8]) -> Option<(TurnCondition, &[u8])
     Some((condition, after))
 }
 
-/// `X = W`, `X != W`, `X < W`, `X > W` and `X & W = W`, with the words after it.
+/// `X = W`, `X != W`, `X < W`, `X > W`, each with a quantity in place of W too, and `X & W = W`,
+/// with the words after it.
 #[tactic(auto, unfolding(crate::specs::Grammar::Conditions::comparison_first))]
 fn read_comparison(text: &[u8]) -> Option<(TurnCondition, &[u8])>
     ensures { option_map (λ found. (found.0, words_of_line found.1.now)) result
