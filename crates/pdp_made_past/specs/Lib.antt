@@ -1,0 +1,2 @@
+-- What the run of a past makes, and when its inputs are the same as those of another past.
+pub mod PastRows
