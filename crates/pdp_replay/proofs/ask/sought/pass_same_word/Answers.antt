@@ -4,13 +4,9 @@ use Rattle.pdp_cpu.specs.Turns.CalmTurns.{after_calm_turns}
 use Rattle.pdp_replay.proofs.ask.TurnConditions.{none_unmet_while_same}
 use Rattle.pdp_replay.proofs.ask.sought.pass_same_word.Goals as goal
 
-pub returns-in_default-clause-turns : goal.returns-in_default-clause-turns
-returns-in_default-clause-turns c =
-    sym (ap (λ n. after_calm_turns n c.args.machine.now) c.pass_none.ensures.none ∙ calm_none c.args.machine.now)
-
 pub returns-then-number-core_len-clause-turns : goal.returns-then-number-core_len-clause-turns
 returns-then-number-core_len-clause-turns c =
-    sym (ap (λ n. after_calm_turns n c.args.machine.now) c.pass_none-then-number-core_len.ensures.none ∙ calm_none c.args.machine.now)
+    sym (ap (λ n. after_calm_turns n c.args.machine.now) c.pass_none.ensures.none ∙ calm_none c.args.machine.now)
 
 pub returns-clause-none : goal.returns-clause-none
 returns-clause-none c =
