@@ -12,8 +12,8 @@ import re
 from pathlib import Path
 from typing import Mapping, NamedTuple, Sequence
 
-from nezdrab.explore.page_file import EMPTY, SESSION, PageSession, as_json, element, json_element
-from nezdrab.explore.page_file import packed_bytes
+from nezdrab.export.page_file import EMPTY, SESSION, PageSession, as_json, element, json_element
+from nezdrab.export.page_file import packed_bytes
 
 WORKER = "machine-worker.js"
 IMPORT = re.compile(r'^import \{([^}]*)\} from "\./([a-z-]+\.js)";\n', re.M)

@@ -1,6 +1,7 @@
 """The numbers and names of the machine that explore and the page both know, as the page's module.
-`tools/web --tables` makes web/hardware.js of this. The numbers stand in src/nezdrab/hardware.py."""
-from nezdrab.hardware import CYLINDERS, DELAYS, INTERRUPTS, SECTORS, SECTOR_WORDS, SURFACES
+`tools/web --tables` makes web/hardware.js of this. The numbers stand in the package's module
+nezdrab.core.hardware."""
+from nezdrab.core.hardware import CYLINDERS, DELAYS, INTERRUPTS, SECTORS, SECTOR_WORDS, SURFACES
 
 MODULE = """\
 // Made of tools/hardware.py by tools/web --tables: change that file, and make this one again.

@@ -1,11 +1,11 @@
 """What the results of instructions are made of, as the page's module. `tools/web --tables` makes
-web/made-of.js of this. The rows stand in src/nezdrab/explore/made_of.py."""
-from nezdrab.explore.made_of import EXTENDED, LETTERS, MOVED, XOR, Plan, Row, plan_of
+web/made-of.js of this. The rows stand in src/nezdrab/analysis/made_of.py."""
+from nezdrab.analysis.made_of import EXTENDED, LETTERS, MOVED, XOR, Plan, Row, plan_of
 
 OPERATIONS = 0o2000  # the numbers that the upper ten bits of a word can be
 MODULE = """\
-// Made of src/nezdrab/explore/made_of.py by tools/web --tables: change that file, and make this one
-// again.
+// Made of src/nezdrab/analysis/made_of.py by tools/web --tables: change that file, and make this
+// one again.
 
 /**
  * What the results of an instruction are made of: `low` and `high` the bytes that it stores, and

@@ -4,11 +4,11 @@ from pathlib import Path
 from typing import Mapping, NamedTuple
 
 import bundle
-from nezdrab.explore.load import Loaded, loaded_program, loaded_tape
-from nezdrab.explore.options import options_of_session
-from nezdrab.explore.page_file import PageSession
-from nezdrab.explore.symbol_files import Symbol, symbol_file
-from nezdrab.explore.web_session import held, session_for_page
+from nezdrab.core.options import options_of_session
+from nezdrab.core.symbol_files import Symbol, symbol_file
+from nezdrab.export.page_file import PageSession
+from nezdrab.export.web_session import held, session_for_page
+from nezdrab.shell.load import Loaded, loaded_program, loaded_tape
 from webassembly import files as modules
 
 FOLDER = modules.ROOT / "examples"

@@ -1,5 +1,5 @@
-"""What the checks share: the lines of the session language, from src/nezdrab/sessions.py, and the
-stored sessions of a folder.
+"""What the checks share: the lines of the session language, from src/nezdrab/core/sessions.py, and
+the stored sessions of a folder.
 
 NAME.transcript has the lines of a session, each with its reply under it; the reply `ok` of an edit
 is left out. If bytes, status or standard error matter, a session stands in files of its own:
@@ -14,9 +14,9 @@ import subprocess
 from dataclasses import dataclass
 from typing import Any, Iterable, NamedTuple, Optional, Union
 
-from nezdrab.sessions import *  # noqa: F403, what the checks know as sessions.NAME
-from nezdrab.sessions import EDITS, SEARCHES, first_word, further_lines, has_reply, is_reply
-from nezdrab.sessions import lines_of, pattern_of, without_end
+from nezdrab.core.sessions import *  # noqa: F403, what the checks know as sessions.NAME
+from nezdrab.core.sessions import EDITS, SEARCHES, first_word, further_lines, has_reply, is_reply
+from nezdrab.core.sessions import lines_of, pattern_of, without_end
 
 ROOT = os.path.dirname(os.path.dirname(os.path.abspath(__file__)))
 SECONDS = 300

@@ -3,8 +3,7 @@
 from itertools import groupby
 from pathlib import Path
 
-from nezdrab import Machine, questions
-from nezdrab.hardware import INTERRUPTS
+from nezdrab import Machine, hardware, questions
 
 TURNS, WORD, WIDTH, LEFT, RIGHT, BOTTOM = range(41), 0o2000, 960, 92, 950, 364
 LIGHT = """--ground:#fff;--ink:#656d76;--grid:#d8dee4;--raised:#fdecd2;--cpu:#0b5cad;
@@ -83,7 +82,7 @@ lane(194, "interrupts")
 for it in trail:
     if it.vector is not None:
         bar("interrupt", it.turn, it.turn, 199, 12, f"turn {it.turn}: {it.interrupt()}")
-        text(x(it.turn), 223, INTERRUPTS[it.vector], "interrupt")
+        text(x(it.turn), 223, hardware.INTERRUPTS[it.vector], "interrupt")
 lane(232, f"core {WORD:06o}")
 levels = {word: 262 - 11 * at for at, word in enumerate(sorted({word for _, word in words}))}
 steps("step", words, levels)

@@ -13,46 +13,48 @@ import importlib
 from typing import TYPE_CHECKING
 
 if TYPE_CHECKING:
-    from .explore.children import ProgramEnded as ProgramEnded
-    from .explore.errors import ExploreError as NezdrabError
-    from .explore.machine import LAST_TURN as LAST_TURN, Refused as Refused
-    from .explore.past import Event as Event, Setup as Setup
-    from .explore.program import TimedOut as TimedOut
-    from .explore.replies import Devices as Devices, LastWrite as LastWrite, Mode as Mode
-    from .explore.replies import BusCycle as BusCycle, CycleKind as CycleKind
-    from .explore.replies import Pages as Pages, Registers as Registers, Turn as Turn
-    from .explore.replies import TurnAccesses as TurnAccesses, WordRead as WordRead
-    from .machine import Machine as Machine
-    from .questions import Question as Question
-    from .replies import Found as Found, Transfer as Transfer, Unreadable as Unreadable
+    from .core import hardware as hardware, questions as questions
+    from .core.children import ProgramEnded as ProgramEnded
+    from .core.engine import LAST_TURN as LAST_TURN, Refused as Refused
+    from .core.errors import ExploreError as NezdrabError
+    from .core.found import Found as Found, Transfer as Transfer, Unreadable as Unreadable
+    from .core.machine import Machine as Machine
+    from .core.past import Event as Event, Setup as Setup
+    from .core.program import TimedOut as TimedOut
+    from .core.questions import Question as Question
+    from .core.replies import BusCycle as BusCycle, CycleKind as CycleKind
+    from .core.replies import Devices as Devices, LastWrite as LastWrite, Mode as Mode
+    from .core.replies import Pages as Pages, Registers as Registers, Turn as Turn
+    from .core.replies import TurnAccesses as TurnAccesses, WordRead as WordRead
 
     __version__: str
 
-# Where each name comes from. Only what is used is read: explore, which is part of the package,
-# starts without all of this.
+# Where each name comes from, and the modules that a program reads whole. Only what is used is read:
+# explore, which is part of the package, starts without all of this.
+MODULES = ("hardware", "questions")
 PLACES = {
-    "BusCycle": "explore.replies",
-    "CycleKind": "explore.replies",
-    "LAST_TURN": "explore.machine",
-    "Devices": "explore.replies",
-    "Event": "explore.past",
-    "Found": "replies",
-    "LastWrite": "explore.replies",
-    "Machine": "machine",
-    "Mode": "explore.replies",
-    "NezdrabError": "explore.errors",
-    "Pages": "explore.replies",
-    "ProgramEnded": "explore.children",
-    "Question": "questions",
-    "Refused": "explore.machine",
-    "Registers": "explore.replies",
-    "Setup": "explore.past",
-    "TimedOut": "explore.program",
-    "Transfer": "replies",
-    "Turn": "explore.replies",
-    "TurnAccesses": "explore.replies",
-    "Unreadable": "replies",
-    "WordRead": "explore.replies",
+    "BusCycle": "core.replies",
+    "CycleKind": "core.replies",
+    "LAST_TURN": "core.engine",
+    "Devices": "core.replies",
+    "Event": "core.past",
+    "Found": "core.found",
+    "LastWrite": "core.replies",
+    "Machine": "core.machine",
+    "Mode": "core.replies",
+    "NezdrabError": "core.errors",
+    "Pages": "core.replies",
+    "ProgramEnded": "core.children",
+    "Question": "core.questions",
+    "Refused": "core.engine",
+    "Registers": "core.replies",
+    "Setup": "core.past",
+    "TimedOut": "core.program",
+    "Transfer": "core.found",
+    "Turn": "core.replies",
+    "TurnAccesses": "core.replies",
+    "Unreadable": "core.found",
+    "WordRead": "core.replies",
 }
 OTHERWISE_NAMED = {"NezdrabError": "ExploreError"}
 __all__ = [
@@ -84,7 +86,9 @@ if not TYPE_CHECKING:
 
     def __getattr__(name):
         if name == "__version__":  # the release, by its day
-            return importlib.import_module(".explore.options", __name__).release()
+            return importlib.import_module(".core.options", __name__).release()
+        if name in MODULES:
+            return importlib.import_module(f".core.{name}", __name__)
         if name not in PLACES:
             raise AttributeError(f"module {__name__!r} has no attribute {name!r}")
         module = importlib.import_module(f".{PLACES[name]}", __name__)
@@ -92,4 +96,4 @@ if not TYPE_CHECKING:
         return found
 
     def __dir__():
-        return sorted([*globals(), *PLACES])
+        return sorted([*globals(), *MODULES, *PLACES])

@@ -43,7 +43,7 @@ from typing import Iterable, Iterator, NamedTuple, Optional, Sequence
 
 import sessions
 from checks.checklists import CHANGING, failures_of_checklists
-from nezdrab.explore.script import typed_bytes
+from nezdrab.analysis.script import typed_bytes
 from pseudo_terminal import NotShown, PseudoTerminal
 from tests import under_test
 

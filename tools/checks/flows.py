@@ -1,10 +1,10 @@
 """What explore's rules of data tell of turns, and of the values of their cycles."""
 from typing import Iterator, Optional
 
-from nezdrab.explore.machine import Machine
-from nezdrab.explore.operands import Flow
-from nezdrab.explore.turn_cycles import NotFollowed
-from nezdrab.explore.turn_flow import Flows
+from nezdrab.analysis.operands import Flow
+from nezdrab.analysis.turn_cycles import NotFollowed
+from nezdrab.analysis.turn_flow import Flows
+from nezdrab.core.engine import Machine
 
 
 def each_flow(machine: Machine, turns: range) -> Iterator[tuple[Flows, Flow, str]]:

@@ -1,8 +1,8 @@
-"""help: compares the tables of the languages in src/nezdrab/sessions.py with the lines that the
---help of pdp11 and of search show: the same forms in the same order with the same
-texts, and of a session's lines a question exactly if its text says 'before turn N'. It also
-compares what ./pdp11 --help and ./search --help show while there is no program. The last line is 'N
-passed, M failed'."""
+"""help: compares the tables of the languages in src/nezdrab/core/sessions.py with the lines that
+the --help of pdp11 and of search show: the same forms in the same order with the same texts, and of
+a session's lines a question exactly if its text says 'before turn N'. It also compares what ./pdp11
+--help and ./search --help show while there is no program. The last line is 'N passed, M
+failed'."""
 import itertools
 import os
 import re
@@ -57,7 +57,7 @@ def differences(
         if row is None:
             yield f"{line.form}: --help doesn't show it"
         elif line is None:
-            yield f"{row[0]}: the table of src/nezdrab/sessions.py lacks it"
+            yield f"{row[0]}: the table of src/nezdrab/core/sessions.py lacks it"
         elif row[0] != line.form:
             yield f"--help shows '{row[0]}' in the place of the table's '{line.form}'"
         elif row[1] != line.summary:

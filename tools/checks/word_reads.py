@@ -6,9 +6,9 @@ from typing import Iterator
 
 from checks.flows import each_flow, word_of
 from checks.systems import System
-from nezdrab.explore.machine import Machine, Start
-from nezdrab.explore.replies import DiskFunction
-from nezdrab.explore.transfers import functions_done, with_stays, words_of_core
+from nezdrab.analysis.transfers import functions_done, with_stays, words_of_core
+from nezdrab.core.engine import Machine, Start
+from nezdrab.core.replies import DiskFunction
 
 READING = (DiskFunction.WRITE, DiskFunction.WRITE_CHECK)
 

@@ -10,7 +10,7 @@ import sys
 from pathlib import Path
 
 from checks.docs import DEFINITIONS, README, Document, documents
-from nezdrab.explore.files import replaced
+from nezdrab.core.files import replaced
 
 from .turned import MAKER, NotTurned, Turned, place_of, stem_of, turned
 

@@ -16,7 +16,7 @@ import sys
 from dataclasses import dataclass, field
 from pathlib import Path
 
-from nezdrab.explore.errors import ExploreError
+from nezdrab.core.errors import ExploreError
 
 from . import completion, pages
 from .tables import ROOT, programs

@@ -4,9 +4,9 @@ import textwrap
 from typing import Iterable, Iterator, Sequence
 
 import sessions
-from nezdrab.explore.commands import COMMANDS
-from nezdrab.explore.options import release
-from nezdrab.explore.prompt import NUMBERS, OWN_HELP
+from nezdrab.analysis.commands import COMMANDS
+from nezdrab.core.options import release
+from nezdrab.shell.prompt import NUMBERS, OWN_HELP
 
 from .tables import Option, Program
 

@@ -8,8 +8,8 @@ import re
 from dataclasses import dataclass
 from pathlib import Path
 
-from nezdrab.explore import main
-from nezdrab.explore.dap import server
+from nezdrab import main
+from nezdrab.dap import server
 
 ROOT = Path(__file__).resolve().parents[2]
 OPTION = re.compile(r"  (?:(-\w), |    )(--\w+)(?: <(\w+)>)? +(\S.*)")

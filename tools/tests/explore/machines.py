@@ -2,11 +2,11 @@
 from pathlib import Path
 from typing import Sequence
 
-from nezdrab.explore import prompt  # noqa: F401, it adds the commands
-from nezdrab.explore.commands import Explorer
-from nezdrab.explore.disassembly import Disassembler
-from nezdrab.explore.machine import Machine, Start
-from nezdrab.explore.main import read_session
+from nezdrab.analysis.commands import Explorer
+from nezdrab.analysis.disassembly import Disassembler
+from nezdrab.core.engine import Machine, Start
+from nezdrab.main import read_session
+from nezdrab.shell import prompt  # noqa: F401, it adds the commands
 
 from .common import BUILT, ROOT, Case
 

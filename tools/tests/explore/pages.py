@@ -3,7 +3,7 @@ import json
 import re
 from pathlib import Path
 
-from nezdrab.explore.page_file import PageSession, unpacked_bytes
+from nezdrab.export.page_file import PageSession, unpacked_bytes
 
 HELD = re.compile(r'<script type="application/json" id="session">(.*?)</script>', re.S)
 

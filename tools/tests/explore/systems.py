@@ -1,6 +1,6 @@
 """Stored systems as machines beside explore, for what is found by brute force."""
 import sessions
-from nezdrab.explore.machine import Machine, Start
+from nezdrab.core.engine import Machine, Start
 
 from .common import BUILT, Case
 

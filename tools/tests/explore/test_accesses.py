@@ -4,10 +4,10 @@ from pathlib import Path
 
 import sessions
 from checks.flows import each_flow
-from nezdrab.explore.cells import IO_PAGE
-from nezdrab.explore.commands import COMMANDS
-from nezdrab.explore.errors import ExploreError
-from nezdrab.explore.machine import MOST_WORDS, Machine, Start
+from nezdrab.analysis.cells import IO_PAGE
+from nezdrab.analysis.commands import COMMANDS
+from nezdrab.core.engine import MOST_WORDS, Machine, Start
+from nezdrab.core.errors import ExploreError
 
 from .common import BUILT, ROOT
 from .machines import OnMachine

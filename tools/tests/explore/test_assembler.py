@@ -5,11 +5,11 @@ import subprocess
 import unittest
 from typing import Sequence
 
-from nezdrab.explore.assembler import Assembled, assembled
-from nezdrab.explore.errors import ExploreError
-from nezdrab.explore.replies import Mode
-from nezdrab.explore.symbol_files import Symbol, symbol_file
-from nezdrab.explore.symbols import Symbols
+from nezdrab.analysis.assembler import Assembled, assembled
+from nezdrab.core.errors import ExploreError
+from nezdrab.core.replies import Mode
+from nezdrab.core.symbol_files import Symbol, symbol_file
+from nezdrab.core.symbols import Symbols
 
 from . import opcodes
 from .common import BUILT, SECONDS, Case

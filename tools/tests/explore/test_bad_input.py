@@ -6,7 +6,7 @@ import sys
 import threading
 from pathlib import Path
 
-from nezdrab.explore.options import NUMBERS, fault_of_option
+from nezdrab.core.options import NUMBERS, fault_of_option
 
 from .common import BUILT, ROOT, SECONDS, Case
 

@@ -2,9 +2,9 @@
 import random
 from typing import Optional
 
-from nezdrab.explore.commands import COMMANDS, Explorer
-from nezdrab.explore.machine import SHORT_SENT_AHEAD
-from nezdrab.explore.replies import Registers
+from nezdrab.analysis.commands import COMMANDS, Explorer
+from nezdrab.core.engine import SHORT_SENT_AHEAD
+from nezdrab.core.replies import Registers
 
 from .machines import OnMachine
 from .terminal import AtTerminal

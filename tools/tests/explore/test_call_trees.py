@@ -8,17 +8,17 @@ from dataclasses import dataclass, field
 from typing import Iterator, Sequence
 from unittest import mock
 
-from nezdrab.explore import call_tree
-from nezdrab.explore.call_tree import CallTree
-from nezdrab.explore.callgrind import remarks, stacks_of
-from nezdrab.explore.commands import COMMANDS, Explorer
-from nezdrab.explore.counting import Place
-from nezdrab.explore.errors import ExploreError
-from nezdrab.explore.profile import begin_of
-from nezdrab.explore.replies import INSTRUCTION, INTERRUPT, Mode
-from nezdrab.explore.routines import NOWHERE
-from nezdrab.explore.symbol_files import Symbol
-from nezdrab.explore.symbols import Symbols
+from nezdrab.analysis import call_tree
+from nezdrab.analysis.call_tree import CallTree
+from nezdrab.analysis.commands import COMMANDS, Explorer
+from nezdrab.analysis.counting import Place
+from nezdrab.analysis.profile import begin_of
+from nezdrab.analysis.routines import NOWHERE
+from nezdrab.core.errors import ExploreError
+from nezdrab.core.replies import INSTRUCTION, INTERRUPT, Mode
+from nezdrab.core.symbol_files import Symbol
+from nezdrab.core.symbols import Symbols
+from nezdrab.export.callgrind import remarks, stacks_of
 
 from .common import ROOT, SECONDS
 from .machines import LEDGER, OnMachine

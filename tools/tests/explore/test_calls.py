@@ -4,12 +4,12 @@ import random
 from dataclasses import dataclass
 from typing import Iterator, Optional, Sequence
 
-from nezdrab.explore.commands import COMMANDS, Explorer
-from nezdrab.explore.errors import ExploreError
-from nezdrab.explore.levels import LOADED, NOT_CHECKED, Return, Stacks, call_in, pointer
-from nezdrab.explore.listing import seen
-from nezdrab.explore.machine import SHORT_SENT_AHEAD
-from nezdrab.explore.replies import Mode, Registers
+from nezdrab.analysis.commands import COMMANDS, Explorer
+from nezdrab.analysis.levels import LOADED, NOT_CHECKED, Return, Stacks, call_in, pointer
+from nezdrab.analysis.listing import seen
+from nezdrab.core.engine import SHORT_SENT_AHEAD
+from nezdrab.core.errors import ExploreError
+from nezdrab.core.replies import Mode, Registers
 
 from .machines import LEDGER, OnMachine
 

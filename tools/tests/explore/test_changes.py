@@ -2,7 +2,7 @@
 import random
 import re
 
-from nezdrab.explore.machine import Machine
+from nezdrab.core.engine import Machine
 
 from .systems import KEYS, LEDGER, OfSystems
 

@@ -11,7 +11,7 @@ from contextlib import suppress
 from typing import Callable
 from unittest import mock
 
-from nezdrab.explore import pace
+from nezdrab.shell import pace
 from tests import processes
 
 from .common import BUILT, SECONDS

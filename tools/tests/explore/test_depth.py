@@ -2,12 +2,12 @@
 from pathlib import Path
 from unittest import mock
 
-from nezdrab.explore.commands import COMMANDS, Explorer
-from nezdrab.explore.disassembly import Disassembler
-from nezdrab.explore.machine import Machine
-from nezdrab.explore.main import read_session
-from nezdrab.explore.program import Program
-from nezdrab.explore.sweep import Sweep
+from nezdrab.analysis.commands import COMMANDS, Explorer
+from nezdrab.analysis.disassembly import Disassembler
+from nezdrab.analysis.sweep import Sweep
+from nezdrab.core.engine import Machine
+from nezdrab.core.program import Program
+from nezdrab.main import read_session
 
 from .machines import LEDGER, OnMachine
 
@@ -103,7 +103,7 @@ class Depth(OnMachine):
         path = Path(self.folder / "my.session")
         lines = [f"at {it} tick" for it in range(30_000)]
         path.write_text("".join(f"{it}\n" for it in (*lines, "at 5 x", "version 2", "disk 9 5 5")))
-        with self.exchanges() as exchange, mock.patch("nezdrab.explore.main.complain") as complain:
+        with self.exchanges() as exchange, mock.patch("nezdrab.main.complain") as complain:
             read_session(machine, path)
             self.assertLess(exchange.call_count, 50)
         said = [it.args[0].split(" BadLine ")[1] for it in complain.call_args_list]

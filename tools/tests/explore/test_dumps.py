@@ -3,8 +3,8 @@ import random
 import re
 from typing import Iterator, Optional
 
-from nezdrab.explore.dump import Words
-from nezdrab.explore.replies import Mode
+from nezdrab.analysis.dump import Words
+from nezdrab.core.replies import Mode
 
 from .systems import LEDGER, SYSTEMS, TOP, OfSystems
 

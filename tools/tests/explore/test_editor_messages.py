@@ -3,8 +3,8 @@ refusal says why, and nothing is a fault."""
 import random
 from typing import Any, Iterator
 
-from nezdrab.explore.dap.adapter import FIRST
-from nezdrab.explore.dap.table import REQUESTS
+from nezdrab.dap.adapter import FIRST
+from nezdrab.dap.table import REQUESTS
 
 from .editor import Editor, Object
 from .test_editors import LISTING, OF_LEDGER, OfEditors

@@ -3,12 +3,12 @@ import random
 from typing import Iterator, Optional
 
 from checks.word_reads import first_reads_in
-from nezdrab.explore.commands import COMMANDS, Explorer
-from nezdrab.explore.dap.running import ahead
-from nezdrab.explore.finder import TURNS_AT_FIRST
-from nezdrab.explore.levels import Stacks
-from nezdrab.explore.machine import SHORT_SENT_AHEAD
-from nezdrab.explore.replies import Registers, Turn
+from nezdrab.analysis.commands import COMMANDS, Explorer
+from nezdrab.analysis.finder import TURNS_AT_FIRST
+from nezdrab.analysis.levels import Stacks
+from nezdrab.core.engine import SHORT_SENT_AHEAD
+from nezdrab.core.replies import Registers, Turn
+from nezdrab.dap.running import ahead
 
 from .common import ROOT
 from .editor import Editor, Object

@@ -3,9 +3,9 @@ import base64
 import random
 from typing import Any
 
-from nezdrab.explore.commands import COMMANDS, Explorer
-from nezdrab.explore.levels import Stacks
-from nezdrab.explore.replies import Mode
+from nezdrab.analysis.commands import COMMANDS, Explorer
+from nezdrab.analysis.levels import Stacks
+from nezdrab.core.replies import Mode
 
 from .common import ROOT
 from .editor import Editor, Object, WithEditors

@@ -3,13 +3,13 @@ import random
 import re
 from typing import Optional
 
-from nezdrab.explore import prompt  # noqa: F401, it adds the commands
-from nezdrab.explore.commands import COMMANDS, Explorer
-from nezdrab.explore.disassembly import Disassembler
-from nezdrab.explore.errors import ExploreError
-from nezdrab.explore.finder import Finder
-from nezdrab.explore.machine import LAST_TURN, Machine
-from nezdrab.explore.replies import text_of
+from nezdrab.analysis.commands import COMMANDS, Explorer
+from nezdrab.analysis.disassembly import Disassembler
+from nezdrab.analysis.finder import Finder
+from nezdrab.core.engine import LAST_TURN, Machine
+from nezdrab.core.errors import ExploreError
+from nezdrab.core.replies import text_of
+from nezdrab.shell import prompt  # noqa: F401, it adds the commands
 
 from .systems import KEYS, LEDGER, OfSystems
 

@@ -5,7 +5,7 @@ import subprocess
 import unittest
 from pathlib import Path
 
-from nezdrab.explore.replies import Mode
+from nezdrab.core.replies import Mode
 
 from .common import SECONDS
 from .systems import LEDGER, OfSystems

@@ -1,9 +1,9 @@
 """From which turn on the run after an edit is the one before it again."""
 from pathlib import Path
 
-from nezdrab.explore.fades import Fading
-from nezdrab.explore.machine import Machine, Start
-from nezdrab.explore.main import read_session
+from nezdrab.analysis.fades import Fading
+from nezdrab.core.engine import Machine, Start
+from nezdrab.main import read_session
 
 from .common import BUILT, SECONDS, Case
 from .terminal import AtTerminal

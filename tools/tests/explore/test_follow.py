@@ -3,14 +3,14 @@ it must stay, as long as the turns are the same ones."""
 import random
 from unittest import mock
 
-from nezdrab.explore.cells import ALL_CODES, CODES, NAMES, drive_cell, register_cells, word_cells
-from nezdrab.explore.commands import COMMANDS, Explorer
-from nezdrab.explore.errors import ExploreError
-from nezdrab.explore.follow import Followed
-from nezdrab.explore.labels import Labels
-from nezdrab.explore.machine import Machine
-from nezdrab.explore.made_of import TWO_OPERANDS, Row, plan_of
-from nezdrab.explore.turn_flow import Flows
+from nezdrab.analysis.cells import ALL_CODES, CODES, NAMES, drive_cell, register_cells, word_cells
+from nezdrab.analysis.commands import COMMANDS, Explorer
+from nezdrab.analysis.follow import Followed
+from nezdrab.analysis.labels import Labels
+from nezdrab.analysis.made_of import TWO_OPERANDS, Row, plan_of
+from nezdrab.analysis.turn_flow import Flows
+from nezdrab.core.engine import Machine
+from nezdrab.core.errors import ExploreError
 
 from .machines import LEDGER, OnMachine
 from .terminal import AtTerminal

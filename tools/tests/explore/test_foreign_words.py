@@ -2,12 +2,12 @@
 import re
 from typing import Iterable
 
-from nezdrab.explore import prompt  # which adds the commands
-from nezdrab.explore.commands import COMMANDS
-from nezdrab.explore.errors import ExploreError
-from nezdrab.explore.foreign import FOREIGN, sentence
-from nezdrab.explore.habits import HABITS
-from nezdrab.explore.language import FORMS, LISTS, SEARCHES
+from nezdrab.analysis.commands import COMMANDS
+from nezdrab.core.errors import ExploreError
+from nezdrab.core.language import FORMS, LISTS, SEARCHES
+from nezdrab.shell import prompt  # which adds the commands
+from nezdrab.shell.foreign import FOREIGN, sentence
+from nezdrab.shell.habits import HABITS
 
 from .common import ROOT, Case
 from .machines import OnMachine

@@ -5,10 +5,10 @@ import struct
 import termios
 from typing import Optional
 
-from nezdrab.explore import pager, prompt  # noqa: F401, which adds the commands
-from nezdrab.explore.commands import COMMANDS
-from nezdrab.explore.language import FORMS, LISTS, SEARCHES
-from nezdrab.explore.topics import ASKING, LINES, NAMED, SHOWING, TOPICS, commands_of
+from nezdrab.analysis.commands import COMMANDS
+from nezdrab.core.language import FORMS, LISTS, SEARCHES
+from nezdrab.shell import pager, prompt  # noqa: F401, which adds the commands
+from nezdrab.shell.topics import ASKING, LINES, NAMED, SHOWING, TOPICS, commands_of
 
 from .common import SECONDS, Case
 from .terminal import AtTerminal

@@ -3,8 +3,8 @@ import sys
 import threading
 from pathlib import Path
 
-from nezdrab.explore.errors import ExploreError
-from nezdrab.explore.machine import Machine, Start
+from nezdrab.core.engine import Machine, Start
+from nezdrab.core.errors import ExploreError
 
 from .common import BUILT, SECONDS, Case
 from .terminal import AtTerminal

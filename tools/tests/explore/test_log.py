@@ -1,7 +1,7 @@
 """The file of `log`."""
 import os
 
-from nezdrab.explore import output
+from nezdrab.shell import output
 
 from .common import Case
 from .terminal import AtTerminal

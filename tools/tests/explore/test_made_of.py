@@ -5,11 +5,11 @@ from dataclasses import dataclass, field
 from typing import Callable
 from unittest import mock
 
-from nezdrab.explore.cells import ALL_CODES, CODES, NAMES, register_cells, word_cells
-from nezdrab.explore.machine import Machine
-from nezdrab.explore.made_of import EXTENDED, ONE_OPERAND, TWO_OPERANDS, Row, plan_of
-from nezdrab.explore.operands import Flow
-from nezdrab.explore.turn_flow import Flows
+from nezdrab.analysis.cells import ALL_CODES, CODES, NAMES, register_cells, word_cells
+from nezdrab.analysis.made_of import EXTENDED, ONE_OPERAND, TWO_OPERANDS, Row, plan_of
+from nezdrab.analysis.operands import Flow
+from nezdrab.analysis.turn_flow import Flows
+from nezdrab.core.engine import Machine
 
 from .machines import OnMachine
 

@@ -2,7 +2,7 @@
 import random
 import re
 
-from nezdrab.explore.replies import Mode
+from nezdrab.core.replies import Mode
 
 from .systems import LEDGER, OfSystems
 

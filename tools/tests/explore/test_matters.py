@@ -4,11 +4,11 @@ import re
 import subprocess
 from typing import Optional, Sequence
 
-from nezdrab.explore.commands import Explorer
-from nezdrab.explore.machine import LAST_TURN
-from nezdrab.explore.matters import Matters, Results, tried
-from nezdrab.explore.moves import Change, Tried, Way
-from nezdrab.explore.past import Event
+from nezdrab.analysis.commands import Explorer
+from nezdrab.analysis.matters import Matters, Results, tried
+from nezdrab.analysis.moves import Change, Tried, Way
+from nezdrab.core.engine import LAST_TURN
+from nezdrab.core.past import Event
 
 from .common import ROOT, SECONDS
 from .machines import LEDGER, OnMachine

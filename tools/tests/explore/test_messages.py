@@ -3,11 +3,11 @@ import subprocess
 import sys
 from unittest import mock
 
-from nezdrab.explore.compare import parts_of_texts
-from nezdrab.explore.disassembly import Disassemble, Disassembler
-from nezdrab.explore.errors import ExploreError
-from nezdrab.explore.machine import LAST_TURN
-from nezdrab.explore.search import not_found
+from nezdrab.analysis.compare import parts_of_texts
+from nezdrab.analysis.disassembly import Disassemble, Disassembler
+from nezdrab.analysis.search import not_found
+from nezdrab.core.engine import LAST_TURN
+from nezdrab.core.errors import ExploreError
 
 from .common import BUILT, SECONDS, Case
 

@@ -4,13 +4,13 @@ import re
 import struct
 from typing import Iterator
 
-from nezdrab.explore.disassembly import Disassembler
-from nezdrab.explore.commands import Explorer
-from nezdrab.explore.listing import SeenTurn, seen
-from nezdrab.explore.machine import Machine, Start
-from nezdrab.explore.operand_values import STATUS, Memory, Operand, Walk
-from nezdrab.explore.operand_values import operands_of, texts_of, walked, way_of
-from nezdrab.explore.replies import INSTRUCTION, Mode
+from nezdrab.analysis.commands import Explorer
+from nezdrab.analysis.disassembly import Disassembler
+from nezdrab.analysis.listing import SeenTurn, seen
+from nezdrab.analysis.operand_values import STATUS, Memory, Operand, Walk, operands_of, texts_of
+from nezdrab.analysis.operand_values import walked, way_of
+from nezdrab.core.engine import Machine, Start
+from nezdrab.core.replies import INSTRUCTION, Mode
 
 from .common import BUILT
 from .systems import SYSTEMS, OfSystems

@@ -5,15 +5,15 @@ from pathlib import Path
 from typing import Optional
 from unittest import mock
 
-from nezdrab.explore import page_file
-from nezdrab.explore.commands import COMMANDS, Explorer
-from nezdrab.explore.disassembly import Disassembler
-from nezdrab.explore.errors import ExploreError
-from nezdrab.explore.files import OUTPUT
-from nezdrab.explore.machine import Machine, Start
-from nezdrab.explore.page_file import BEGIN, END, EMPTY, NAME, PageSession, page_with
-from nezdrab.explore.symbol_files import Symbol
-from nezdrab.explore.web_session import symbol_text
+from nezdrab.analysis.commands import COMMANDS, Explorer
+from nezdrab.analysis.disassembly import Disassembler
+from nezdrab.core.engine import Machine, Start
+from nezdrab.core.errors import ExploreError
+from nezdrab.core.files import OUTPUT
+from nezdrab.core.symbol_files import Symbol
+from nezdrab.export import page_file
+from nezdrab.export.page_file import BEGIN, END, EMPTY, NAME, PageSession, page_with
+from nezdrab.export.web_session import symbol_text
 
 from .common import BUILT, ROOT, SECONDS, Case
 from .machines import OnMachine

@@ -4,16 +4,16 @@ import re
 from collections import Counter
 from unittest import mock
 
-from nezdrab.explore import profile
-from nezdrab.explore.commands import Explorer
-from nezdrab.explore.counting import AREA_BYTES, Place, areas_with_turns, windows_of
-from nezdrab.explore.disassembly import Disassembler
-from nezdrab.explore.levels import call_in
-from nezdrab.explore.machine import Machine, Start
-from nezdrab.explore.profile import Profile, Share, begins_of, counted_profile
-from nezdrab.explore.profile import sampled_profile, sampled_turns
-from nezdrab.explore.replies import INSTRUCTION, Mode, Registers
-from nezdrab.explore.symbol_files import Symbol
+from nezdrab.analysis import profile
+from nezdrab.analysis.commands import Explorer
+from nezdrab.analysis.counting import AREA_BYTES, Place, areas_with_turns, windows_of
+from nezdrab.analysis.disassembly import Disassembler
+from nezdrab.analysis.levels import call_in
+from nezdrab.analysis.profile import Profile, Share, begins_of, counted_profile, sampled_profile
+from nezdrab.analysis.profile import sampled_turns
+from nezdrab.core.engine import Machine, Start
+from nezdrab.core.replies import INSTRUCTION, Mode, Registers
+from nezdrab.core.symbol_files import Symbol
 
 from .common import BUILT
 from .systems import KEYS, LEDGER, OfSystems

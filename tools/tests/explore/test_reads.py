@@ -6,13 +6,13 @@ from unittest import mock
 
 from checks.flows import each_flow
 from checks.word_reads import READING, first_reads_in
-from nezdrab.explore.cells import IO_PAGE
-from nezdrab.explore.commands import COMMANDS, Explorer
-from nezdrab.explore.errors import ExploreError
-from nezdrab.explore.finder import Finder
-from nezdrab.explore.machine import MOST_WORDS, Machine, Start
-from nezdrab.explore.replies import WordRead
-from nezdrab.explore.transfers import functions_done, with_stays, words_of_core
+from nezdrab.analysis.cells import IO_PAGE
+from nezdrab.analysis.commands import COMMANDS, Explorer
+from nezdrab.analysis.finder import Finder
+from nezdrab.analysis.transfers import functions_done, with_stays, words_of_core
+from nezdrab.core.engine import MOST_WORDS, Machine, Start
+from nezdrab.core.errors import ExploreError
+from nezdrab.core.replies import WordRead
 
 from .common import BUILT
 from .machines import OnMachine

@@ -3,7 +3,7 @@ import random
 import time
 import unittest
 
-from nezdrab.explore.screen import in_characters, lines_of
+from nezdrab.analysis.screen import in_characters, lines_of
 
 BYTES = b"ab c\r\n\b\t\x1b\x00\x7f\x80\xff"
 WEIGHTS = (20, 20, 5, 20, 8, 8, 8, 4, 1, 1, 1, 1, 1)

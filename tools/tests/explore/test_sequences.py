@@ -1,8 +1,8 @@
 """Control sequences that a program prints at the console: they are set back, and bring no keys."""
 import signal
 
-from nezdrab.explore.sequences import Sequences
-from nezdrab.explore.visible import visible_bytes
+from nezdrab.core.visible import visible_bytes
+from nezdrab.shell.sequences import Sequences
 
 from .common import SECONDS, Case
 from .test_consoles import ECHO, LEAVE, AtConsole

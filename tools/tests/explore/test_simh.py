@@ -2,7 +2,7 @@
 import subprocess
 import unittest
 
-from nezdrab.explore.simh import bootstrap
+from nezdrab.shell.simh import bootstrap
 
 from .common import ROOT, SECONDS
 from .installed import SIMH

@@ -3,7 +3,7 @@ import subprocess
 import sys
 from pathlib import Path
 
-from nezdrab.explore.commands import COMMANDS, MODULES
+from nezdrab.analysis.commands import COMMANDS, MODULES
 
 from .common import ROOT, SECONDS, Case
 
@@ -59,11 +59,12 @@ class Commands(Case):
     """Their modules are read when they are typed."""
 
     def test_each_is_in_its_module(self) -> None:
-        folder = ROOT / "src" / "nezdrab" / "explore"
-        with_commands = {it.stem for it in folder.glob("*.py") if "\n@command(" in it.read_text()}
+        folder = ROOT / "src" / "nezdrab"
+        files = [it for it in folder.rglob("*.py") if "\n@command(" in it.read_text()]
+        with_commands = {f"{it.parent.name}.{it.stem}" for it in files}
         self.assertEqual(with_commands, {*MODULES})
         modules = {name: it.run.__module__ for name, it in COMMANDS.items()}
-        named = {it: f"nezdrab.explore.{name}" for it, name in COMMANDS.modules.items()}
+        named = {it: f"nezdrab.{name}" for it, name in COMMANDS.modules.items()}
         self.assertEqual(modules, named)
         for it in COMMANDS.values():
             self.assertEqual(it.pattern.pattern, it.source)
@@ -71,12 +72,13 @@ class Commands(Case):
     def test_none_is_read_at_the_start(self) -> None:
         """None but those that the prompt itself needs; and then the one that is typed."""
         code = (
-            "import sys\nfrom nezdrab.explore import commands, main\n"
+            "import sys\nfrom nezdrab import main\nfrom nezdrab.analysis import commands\n"
             "def show():\n"
-            "    read = [it for it in commands.MODULES if f'nezdrab.explore.{it}' in sys.modules]\n"
+            "    read = [it for it in commands.MODULES if f'nezdrab.{it}' in sys.modules]\n"
             "    print(*read)\n"
             "show()\ncommands.COMMANDS['log']\nshow()\n"
         )
         command, path = [sys.executable, "-S", "-B", "-c", code], str(ROOT / "src")
         ran = subprocess.run(command, env={"PYTHONPATH": path}, capture_output=True, text=True)
-        self.assertEqual((ran.stdout, ran.stderr), ("defining display\ndefining display log\n", ""))
+        first = "shell.defining shell.display"
+        self.assertEqual((ran.stdout, ran.stderr), (f"{first}\n{first} shell.log\n", ""))

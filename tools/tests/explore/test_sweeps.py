@@ -7,11 +7,11 @@ from pathlib import Path
 from typing import cast
 from unittest import mock
 
-from nezdrab.explore import work_options
-from nezdrab.explore.at_work import AtWork
-from nezdrab.explore.crew import each_of
-from nezdrab.explore.errors import ExploreError
-from nezdrab.explore.machine import Machine
+from nezdrab.analysis import work_options
+from nezdrab.analysis.at_work import AtWork
+from nezdrab.analysis.crew import each_of
+from nezdrab.core.engine import Machine
+from nezdrab.core.errors import ExploreError
 
 from .common import SECONDS
 from .terminal import AtTerminal

@@ -2,7 +2,7 @@
 import random
 from typing import Iterator
 
-from nezdrab.explore.symbol_files import SymbolFile, symbol_file
+from nezdrab.core.symbol_files import SymbolFile, symbol_file
 
 from .common import ROOT
 from .media import FAULT, Media, program, words

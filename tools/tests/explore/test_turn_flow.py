@@ -3,10 +3,10 @@ programs of random words with traps, mapping and stacks in bad places."""
 import random
 from typing import Iterator
 
-from nezdrab.explore.cells import is_core
-from nezdrab.explore.errors import ExploreError
-from nezdrab.explore.machine import MOST_WORDS, Machine, Start
-from nezdrab.explore.turn_flow import Flows
+from nezdrab.analysis.cells import is_core
+from nezdrab.analysis.turn_flow import Flows
+from nezdrab.core.engine import MOST_WORDS, Machine, Start
+from nezdrab.core.errors import ExploreError
 
 from .common import BUILT
 from .systems import KEYS, LEDGER, OfSystems

@@ -4,11 +4,11 @@ import random
 from typing import Sequence
 from unittest import mock
 
-from nezdrab.explore.commands import Explorer
-from nezdrab.explore.machine import LAST_TURN, Machine
-from nezdrab.explore.matters import Matters, Results, tried
-from nezdrab.explore.moves import Trial
-from nezdrab.explore.unnoticed import Unnoticed
+from nezdrab.analysis.commands import Explorer
+from nezdrab.analysis.matters import Matters, Results, tried
+from nezdrab.analysis.moves import Trial
+from nezdrab.analysis.unnoticed import Unnoticed
+from nezdrab.core.engine import LAST_TURN, Machine
 
 from .machines import LEDGER, OnMachine
 

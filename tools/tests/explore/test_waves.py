@@ -6,10 +6,10 @@ import subprocess
 import unittest
 from typing import Iterator, NamedTuple
 
-from nezdrab.explore.levels import call_in
-from nezdrab.explore.machine import Machine
-from nezdrab.explore.profile import NOT_NAMED
-from nezdrab.explore.replies import Mode
+from nezdrab.analysis.levels import call_in
+from nezdrab.analysis.profile import NOT_NAMED
+from nezdrab.core.engine import Machine
+from nezdrab.core.replies import Mode
 
 from .common import SECONDS
 from .systems import KEYS, LEDGER, OfSystems

@@ -5,14 +5,14 @@ import re
 from typing import Sequence
 from xml.etree import ElementTree
 
-from nezdrab.explore.account import ranges
-from nezdrab.explore.cells import ALL_CODES, drive_cell, is_on_bus, register_cells
-from nezdrab.explore.commands import COMMANDS, Explorer
-from nezdrab.explore.errors import ExploreError
-from nezdrab.explore.labels import Labels, events_with_data
-from nezdrab.explore.machine import Machine
-from nezdrab.explore.origins import Origins
-from nezdrab.explore.turn_flow import Flows
+from nezdrab.analysis.account import ranges
+from nezdrab.analysis.cells import ALL_CODES, drive_cell, is_on_bus, register_cells
+from nezdrab.analysis.commands import COMMANDS, Explorer
+from nezdrab.analysis.labels import Labels, events_with_data
+from nezdrab.analysis.origins import Origins
+from nezdrab.analysis.turn_flow import Flows
+from nezdrab.core.engine import Machine
+from nezdrab.core.errors import ExploreError
 
 from .machines import LEDGER, OnMachine
 from .terminal import AtTerminal

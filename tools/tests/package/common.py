@@ -8,7 +8,7 @@ from typing import Any, Sequence
 
 import sessions
 from nezdrab import Machine
-from nezdrab.explore.options import options_of_session, words_of_options
+from nezdrab.core.options import options_of_session, words_of_options
 from tests import under_test
 
 ROOT = Path(__file__).resolve().parents[3]

@@ -3,7 +3,7 @@ from pathlib import Path
 from typing import Callable, Iterable, NamedTuple, Optional
 
 from nezdrab import CycleKind, Devices, Machine, Refused, Registers, Turn, Unreadable, questions
-from nezdrab.questions import Question
+from nezdrab.core.questions import Question
 
 from .common import EXAMPLES, Case, replies
 

@@ -4,7 +4,7 @@ import pickle
 from typing import Callable
 
 from nezdrab import Machine, NezdrabError, Refused, questions
-from nezdrab.questions import Question
+from nezdrab.core.questions import Question
 
 from .common import EXAMPLES, Case, replies
 

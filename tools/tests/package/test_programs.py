@@ -10,8 +10,8 @@ from unittest import mock
 from xml.etree import ElementTree
 
 import nezdrab
-from nezdrab import Machine, NezdrabError, questions, sessions
-from nezdrab.explore import options, programs
+from nezdrab import Machine, NezdrabError, questions
+from nezdrab.core import sessions, options, programs
 
 from .common import EXAMPLES, ROOT, Case, program
 
@@ -44,7 +44,7 @@ class Programs(Case):
     def test_without_a_clone(self) -> None:
         """They are on PATH by their own names, or there are none."""
         named = self.folder / "nezdrab-search"
-        with mock.patch.object(programs, "HERE", Path("/usr/lib/nezdrab/explore/programs.py")):
+        with mock.patch.object(programs, "HERE", Path("/usr/lib/nezdrab/core/programs.py")):
             self.assertIsNone(programs.clone())
             self.assertEqual(programs.own_command(), "nezdrab-explore")
             with mock.patch.dict(os.environ, PATH=str(self.folder)):
@@ -63,7 +63,7 @@ class Programs(Case):
             path.parent.mkdir(parents=True)
             path.write_text("#!/bin/sh\n")
         search.chmod(0o755)
-        away = mock.patch.object(programs, "HERE", Path("/usr/lib/nezdrab/explore/programs.py"))
+        away = mock.patch.object(programs, "HERE", Path("/usr/lib/nezdrab/core/programs.py"))
         with away, self.beside(beside), mock.patch.dict(os.environ, PATH=str(by_path)):
             with self.assertRaisesRegex(NezdrabError, "is run by node, 16 or later"):
                 programs.found_program("search")
@@ -106,14 +106,14 @@ class Programs(Case):
         blocks = re.findall(r"^```python\n(.*?)^```", DOCUMENT.read_text(), re.M | re.S)
         tested = doctest.DocTestParser().get_doctest("\n".join(blocks), {}, "it", None, None)
         runner = doctest.DocTestRunner(verbose=False)
-        with mock.patch("nezdrab.machine.found_program", lambda name: program()):
+        with mock.patch("nezdrab.core.machine.found_program", lambda name: program()):
             failed, tried = runner.run(tested, out=wrong.write, clear_globs=False)
         tested.globs["m"].close()
         self.assertEqual((failed, tried > 5), (0, True), wrong.getvalue())
 
     def written_by(self, path: Path) -> str:
         written = io.StringIO()
-        with mock.patch("nezdrab.machine.found_program", lambda name: program()):
+        with mock.patch("nezdrab.core.machine.found_program", lambda name: program()):
             with contextlib.redirect_stdout(written):
                 runpy.run_path(str(path))
         return written.getvalue()

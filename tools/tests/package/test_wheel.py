@@ -42,13 +42,13 @@ print(*it.get_all("Classifier"), sep="\\n")
 """
 USING = """\
 import importlib, pkgutil, sys
-import nezdrab, nezdrab.explore
+import nezdrab
 from nezdrab import Machine
-names = [it.name for it in pkgutil.iter_modules(nezdrab.explore.__path__)]
+names = [it.name for it in pkgutil.walk_packages(nezdrab.__path__, "nezdrab.")]
 for name in names:
-    importlib.import_module(f"nezdrab.explore.{name}")
+    importlib.import_module(name)
 with Machine.of_session(sys.argv[1]) as machine:
-    print(len(names) > 50, nezdrab.__file__, machine.last(40, 0o2000), nezdrab.__version__)
+    print(len(names) > 100, nezdrab.__file__, machine.last(40, 0o2000), nezdrab.__version__)
 """
 
 

@@ -2,14 +2,14 @@
 from pathlib import Path
 from typing import Sequence
 
-from nezdrab.explore import prompt  # noqa: F401, it adds the commands
-from nezdrab.explore.commands import COMMANDS, Explorer
-from nezdrab.explore.disassembly import Disassembler
-from nezdrab.explore.machine import Machine, Start
-from nezdrab.explore.main import read_session
-from nezdrab.explore.options import options_of_session, words_of_options
-from nezdrab.explore.replies import Mode
-from nezdrab.explore.symbol_files import symbol_file
+from nezdrab.analysis.commands import COMMANDS, Explorer
+from nezdrab.analysis.disassembly import Disassembler
+from nezdrab.core.engine import Machine, Start
+from nezdrab.core.options import options_of_session, words_of_options
+from nezdrab.core.replies import Mode
+from nezdrab.core.symbol_files import symbol_file
+from nezdrab.main import read_session
+from nezdrab.shell import prompt  # noqa: F401, it adds the commands
 
 from tests import under_test
 

@@ -5,9 +5,9 @@ import random
 import struct
 from pathlib import Path
 
-from nezdrab.explore.absolute_tape import tape_of
-from nezdrab.explore.aout import program_of
-from nezdrab.explore.symbol_files import symbol_file
+from nezdrab.core.aout import program_of
+from nezdrab.core.symbol_files import symbol_file
+from nezdrab.shell.absolute_tape import tape_of
 from tests import processes
 from tests.explore.media import PROGRAM, TAPE, tape, words
 

@@ -3,7 +3,7 @@ import random
 import shutil
 from pathlib import Path
 
-from nezdrab.explore.options import option_lines, option_text
+from nezdrab.core.options import option_lines, option_text
 
 from .common import LEDGER, LOST, ROOT, PageCase, replies_of
 

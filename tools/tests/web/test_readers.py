@@ -12,9 +12,9 @@ import threading
 from pathlib import Path
 from typing import Any, Iterable
 
-from nezdrab.explore.errors import ExploreError
-from nezdrab.explore.load import loaded
-from nezdrab.explore.symbol_files import Symbol, symbol_file
+from nezdrab.core.errors import ExploreError
+from nezdrab.core.symbol_files import Symbol, symbol_file
+from nezdrab.shell.load import loaded
 from tests import counted, processes
 from tests.explore.media import PROGRAM, TAPE, block, program, symbol, tape, words
 from tests.explore.test_symbols import FORMATS, MAP_OF_RT11

@@ -8,7 +8,7 @@ from typing import Any
 
 import bundle
 import sessions
-from nezdrab.explore.page_file import PageSession
+from nezdrab.export.page_file import PageSession
 from tests import under_test
 from tests.web import timing
 from tests.web.browser import Browser, found_browser

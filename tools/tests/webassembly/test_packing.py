@@ -11,7 +11,7 @@ from pathlib import Path
 from typing import Any
 
 import bundle
-from nezdrab.explore.page_file import EMPTY, PageSession, unpacked_bytes
+from nezdrab.export.page_file import EMPTY, PageSession, unpacked_bytes
 
 ROOT = Path(__file__).resolve().parents[3]
 PAGE = """\

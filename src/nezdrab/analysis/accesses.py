@@ -1,0 +1,71 @@
+"""The cycles on the bus of some turns: `accesses`."""
+from typing import Iterator
+
+from ..core.engine import MOST_TURNS_OF_A_TRAIL
+from ..core.errors import ExploreError
+from ..core.in_words import counted
+from ..core.replies import BusCycle, DiskFunction, TurnAccesses
+from .commands import Arguments, Explorer, command
+from .listing import HEADING, seen
+from .operand_values import name_of
+from .transfers import DoneFunction
+
+INDENT = " " * 20
+
+
+def cycle_line(cycle: BusCycle) -> str:
+    """A cycle as the line of the program has it, with the name of a register."""
+    has_name = cycle.value is not None and not cycle.is_core
+    return f"{cycle.line()} {name_of(cycle.address) if has_name else ''}".rstrip()
+
+
+def function_line(done: DoneFunction) -> str:
+    """A function of the disk that was done before the act of a turn."""
+    drive, core = f"word {done.word:07o} of drive {done.drive}", f"core {done.core:06o}"
+    what = done.function.title
+    if done.function == DiskFunction.WRITE:
+        what += f" of {counted(done.count, 'word')} from {core} to {drive}"
+    elif done.function == DiskFunction.READ:
+        what += f" of {counted(done.count, 'word')} from {drive} to {core}"
+    elif done.function in (DiskFunction.WRITE_CHECK, DiskFunction.READ_CHECK):
+        what += f" of {counted(done.count, 'word')}, {drive} and {core}"
+    return f"disk: {what}{f', RKER {done.errors:06o}' if done.errors else ''}"
+
+
+def lines_of(turn: TurnAccesses) -> Iterator[str]:
+    """What a turn has in it, in its order."""
+    yield from (f"event {it}" for it in turn.events)
+    yield from (f"printed {it:03o}" for it in turn.printed)
+    yield from (f"punched {it:03o}" for it in turn.punched)
+    if turn.done is not None:
+        yield function_line(DoneFunction.of(f"{turn.turn.turn} before {turn.done}"))
+    yield from map(cycle_line, turn.cycles)
+
+
+@command(
+    "accesses [N [C]]",
+    r"(<turn:decimal>( <count:decimal>)?)?",
+    "the cycles on the bus of the C turns before turn N",
+)
+def accesses(explorer: Explorer, arguments: Arguments) -> Iterator[str]:
+    """Shows the C turns before turn N, one if C isn't given and at most 64, each as `see` has it,
+    and below it what it has in it, in its order: its events, the bytes that come out, the function
+    of the disk that is done, and the cycles that the processor makes on the bus. A cycle is `read`,
+    `write` or `byte`, the write of a byte, with the address on the bus and the value, and of a
+    register its name; `timeout` if nothing answers. A reference that memory management aborts makes
+    no cycle. Without N it is the current turn."""
+    end = arguments.decimal("turn", explorer.turn)
+    count = min(end, arguments.decimal("count", 1))
+    if not 1 <= arguments.decimal("count", 1) <= MOST_TURNS_OF_A_TRAIL:
+        raise ExploreError(f"C is 1 to {MOST_TURNS_OF_A_TRAIL}")
+    if not end:
+        raise ExploreError("no turn comes before turn 0")
+    machine, left = explorer.machine, range(end - count, end)
+    shown = [it.line() for it in seen(explorer, list(machine.turns(left.start, count)))]
+    yield HEADING
+    while left:
+        found, left = machine.accesses(left)
+        for turn in found:
+            yield shown[turn.turn.turn - (end - count)]
+            yield from (f"{INDENT}{it}" for it in lines_of(turn))
+    explorer.turn = end

@@ -1,0 +1,185 @@
+"""Stops of one's own: `break`, `watch`, `catch`, `breakpoints`, `delete`, `continue`."""
+import re
+from typing import Iterator, Optional
+
+from ..core import sessions
+from ..core.errors import ExploreError
+from ..core.in_words import span
+from ..core.replies import Mode, WordRead, turns_of
+from .breakpoints import Breakpoint, Reached
+from .calls import turns_ahead
+from .commands import Arguments, Explorer, command
+from .listing import seen
+from .search import word_of
+
+MOST_PARTS = 4  # of a CONDITION
+OPERATOR = re.compile(r"\s*(==|!=|=|<|>|&)\s*")
+NONE_SET = (
+    "no breakpoint is set: break X, watch A, rwatch A, catch vector V or catch trap V sets one"
+)
+
+
+def set_lines(point: Breakpoint) -> Iterator[str]:
+    yield f"breakpoint {point.number}: {point.text}"
+
+
+@command(
+    "break [user|kernel] X [if CONDITION]",
+    r"((?P<mode>user|kernel) )?<address:address>( if (?P<condition>[^\0]+))?",
+    "a breakpoint: an instruction at X",
+)
+def break_command(explorer: Explorer, arguments: Arguments) -> Iterator[str]:
+    """Sets a breakpoint at each turn that runs an instruction with PC X, an address as the program
+    has it, in any mode or in this one, and before which CONDITION holds: that of `first N M where`.
+    `continue` goes to it, `breakpoints` lists all, `delete` takes them away. They stay until
+    explore ends, and edits leave them as they are; a session doesn't keep them."""
+    machine, address = explorer.machine, word_of(arguments, "address")
+    mode, condition = arguments.text("mode"), arguments.text("condition").strip(" \t")
+    text = f"break {mode + ' ' if mode else ''}{address:o}{named(explorer, mode, address)}"
+    sought = f"at {address:o} {mode}".rstrip()
+    if condition:
+        sought = condition_sought(explorer, [f"at {address:o}", *mode.split(), condition])
+        text += f" if {condition}"
+    yield from set_lines(explorer.breakpoints.add(machine, text, sought, None))
+
+
+def named(explorer: Explorer, mode: str, address: int) -> str:
+    """The symbol of the address in this mode. Without a mode it is one of this very address."""
+    near = explorer.symbols.near
+    if mode:
+        names = {near(Mode(mode), address)}
+    else:
+        names = {near(it, address) for it in (Mode.KERNEL, Mode.USER)}
+        names = {it for it in names if "+" not in it}
+    names -= {""}
+    return f" ({names.pop()})" if len(names) == 1 else ""
+
+
+def condition_in_words(text: str) -> str:
+    """A CONDITION in words: gdb, editors and their users write == and && and no spaces."""
+    joined = text.replace("&&", " and ")
+    spaced = OPERATOR.sub(lambda it: f" {'=' if it[1] == '==' else it[1]} ", joined)
+    return " ".join(spaced.split())
+
+
+def condition_sought(explorer: Explorer, parts: list[str]) -> str:
+    """A CONDITION of these parts, in the words of a search, if the program takes it."""
+    machine, begin = explorer.machine, "first 0 0 "
+    line = f"{begin}where {' and '.join(map(condition_in_words, parts))}"
+    line = explorer.symbols.line_in_octal(line, machine)
+    if machine.ask(line).startswith("refused 10"):
+        most = MOST_PARTS - (len(parts) - 1)
+        raise ExploreError(
+            f"'{parts[-1]}' is no CONDITION, which has {most} parts at most here; a CONDITION is "
+            f"{sessions.CONDITIONS}"
+        )
+    return line[len(begin) :]
+
+
+@command("watch A", r"<address:address>", "a breakpoint: a write of a core word")
+def watch(explorer: Explorer, arguments: Arguments) -> Iterator[str]:
+    """Sets a breakpoint at each turn that writes the core word at A, an address of core, also if
+    the word stays the same, and also if the disk writes it. An image and a patch are no writes."""
+    address = arguments.octal("address")
+    point = explorer.breakpoints.add(explorer.machine, f"watch {address:o}", "", address)
+    yield from set_lines(point)
+
+
+@command("rwatch A", r"<address:address>", "a breakpoint: a read of a core word")
+def rwatch(explorer: Explorer, arguments: Arguments) -> Iterator[str]:
+    """Sets a breakpoint at each turn that reads the core word at A, an address of core, as `reads`
+    lists them: the processor or the disk."""
+    address, machine = arguments.octal("address"), explorer.machine
+    text = f"rwatch {address:o}"
+    yield from set_lines(explorer.breakpoints.add(machine, text, "", address, is_read=True))
+
+
+@command(
+    "catch vector V  or  catch trap V",
+    r"(?P<kind>vector|trap) <vector:octal>",
+    "a breakpoint: an interrupt or a trap",
+)
+def catch(explorer: Explorer, arguments: Arguments) -> Iterator[str]:
+    """Sets a breakpoint at each turn that is an interrupt by vector V, or that has a trap through
+    vector V, as `first N M vector V` and `first N M trap V` find it."""
+    sought = f"{arguments.text('kind')} {word_of(arguments, 'vector'):o}"
+    point = explorer.breakpoints.add(explorer.machine, f"catch {sought}", sought, None)
+    yield from set_lines(point)
+
+
+@command("breakpoints", r"", "lists the breakpoints")
+def breakpoints(explorer: Explorer, arguments: Arguments) -> Iterator[str]:
+    """Lists the breakpoints with their numbers."""
+    points = explorer.breakpoints.points
+    for point in points:
+        yield from set_lines(point)
+    if not points:
+        yield NONE_SET
+
+
+@command("delete [N]", r"<number:decimal>?", "takes away breakpoint N, or all of them")
+def delete(explorer: Explorer, arguments: Arguments) -> Iterator[str]:
+    """Takes away the breakpoint with number N, or without N all of them."""
+    points = explorer.breakpoints.points
+    if arguments.optional("number"):
+        gone = [explorer.breakpoints.delete(arguments.decimal("number"))]
+    else:
+        gone, points[:] = list(points), []
+    for point in gone:
+        yield f"breakpoint {point.number} is gone: {point.text}"
+    if not gone:
+        yield NONE_SET
+
+
+def check_set(explorer: Explorer) -> None:
+    if not explorer.breakpoints.points:
+        raise ExploreError(NONE_SET)
+
+
+def reached_line(explorer: Explorer, point: Breakpoint, turn: int) -> str:
+    """The breakpoint, and for a write or a read who wrote or read what."""
+    (line,) = set_lines(point)
+    if point.is_read and point.address is not None:
+        lines, _ = explorer.machine.reads(range(turn, turn + 1), point.address)
+        return line + "".join(f": {it.reader} {it.word:06o}" for it in map(WordRead.of, lines))
+    write = None if point.address is None else explorer.machine.last(turn + 1, point.address)
+    return line if write is None else f"{line}: {write.writer} {write.word:06o}"
+
+
+def reached_lines(
+    explorer: Explorer, reached: Optional[Reached], turns: range
+) -> Iterator[str]:
+    """Which breakpoints hold, and the turn, which is the current one then."""
+    if reached is None:
+        yield f"no breakpoint holds in {span(turns)}"
+        return
+    trail = turns_of(explorer.machine.read(f"trail {reached.turn + 1} 1"))
+    lines = [it.line() for it in seen(explorer, trail)]
+    explorer.turn = reached.turn
+    yield from (reached_line(explorer, it, reached.turn) for it in reached.points)
+    yield from lines
+
+
+@command("continue [to M]", r"{to}", "goes on to the next turn at a breakpoint")
+def continue_command(explorer: Explorer, arguments: Arguments) -> Iterator[str]:
+    """Goes on from the current turn to the first turn after it at which a breakpoint holds, says
+    which one, and shows the turn as `see` does; it is then the current turn. Without `to` the
+    search goes on to the end of the run: for turns that nothing has asked about yet it takes a
+    second or more for 100000000, and Ctrl-C ends it. It is exact."""
+    check_set(explorer)
+    turns = turns_ahead(explorer, arguments)
+    reached = explorer.breakpoints.reached(explorer.machine, turns)
+    yield from reached_lines(explorer, reached, turns)
+
+
+@command("reverse-continue", r"", "goes back to the last turn at a breakpoint")
+def reverse_continue(explorer: Explorer, arguments: Arguments) -> Iterator[str]:
+    """Goes back from the current turn to the last turn before it at which a breakpoint holds, says
+    which one, and shows the turn as `see` does; it is then the current turn. A search far back
+    takes as long as `continue` over these turns. A write is found at once. It is exact."""
+    check_set(explorer)
+    turns = range(explorer.turn)
+    if not turns:
+        raise ExploreError("the current turn is turn 0")
+    reached = explorer.breakpoints.reached(explorer.machine, turns, is_backwards=True)
+    yield from reached_lines(explorer, reached, turns)

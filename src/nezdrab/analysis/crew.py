@@ -1,0 +1,110 @@
+"""Several programs at work on one list of tasks, and a progress bar."""
+import os
+import queue
+import sys
+import threading
+import time
+from contextlib import closing
+from dataclasses import dataclass
+from operator import length_hint
+from typing import Callable, ClassVar, Iterable, Iterator, Optional, TypeVar
+
+from ..core.engine import Machine
+from ..core.errors import ExploreError
+
+Task = TypeVar("Task")
+Result = TypeVar("Result")
+WIDTH = 30
+
+
+@dataclass
+class Progress:
+    """A bar on standard error, if that is a terminal."""
+
+    total: int
+    what: str
+    done: int = 0
+    begun: float = 0.0
+    shown: float = 0.0
+    bars: ClassVar[int] = 0
+
+    def __enter__(self) -> "Progress":
+        self.begun = time.monotonic()
+        self.is_shown = sys.stderr.isatty()
+        return self
+
+    def step(self, count: int = 1) -> None:
+        self.done += count
+        now = time.monotonic()
+        if self.is_shown and now - self.shown > 0.1 and now - self.begun > 0.5:
+            Progress.bars += not self.shown
+            self.shown = now
+            bar = "#" * (WIDTH * self.done // max(1, self.total))
+            seconds = now - self.begun
+            sys.stderr.write(
+                f"\r[{bar:<{WIDTH}}] {self.done}/{self.total} {self.what}, {seconds:.0f} s "
+            )
+            sys.stderr.flush()
+
+    def __exit__(self, *what: object) -> None:
+        if self.is_shown and self.shown:
+            Progress.bars -= 1
+            sys.stderr.write("\r" + " " * (WIDTH + 50) + "\r")
+            sys.stderr.flush()
+
+
+def processors() -> int:
+    return len(os.sched_getaffinity(0)) if hasattr(os, "sched_getaffinity") else os.cpu_count() or 1
+
+
+def each_of(
+    machine: Machine,
+    tasks: Iterable[Task],
+    work: Callable[[Machine, Task], Result],
+    hands: int,
+    stride: Optional[int] = None,
+) -> Iterator[tuple[Task, Result]]:
+    """Does each task on one of `hands` twins of the machine, and yields the results as they come.
+    A task is taken, in the order of the tasks, when a twin is free for it. After a fault no task is
+    taken any more: what is at work ends, and the fault of the first task that has one is raised,
+    whichever came first. When nobody reads on, the twins end with what they do."""
+    left, taking = enumerate(tasks), threading.Lock()
+    results: "queue.SimpleQueue[Optional[tuple[Task, Result]]]" = queue.SimpleQueue()
+    faults: list[tuple[int, Exception]] = []
+    twins: list[Machine] = []
+    stop = threading.Event()
+
+    def hand() -> None:
+        number = -1
+        try:
+            with closing(machine.twin(stride=stride)) as twin:
+                twins.append(twin)
+                while not stop.is_set() and not faults:
+                    with taking:
+                        number, task = next(left)
+                    results.put((task, work(twin, task)))
+        except StopIteration:
+            pass
+        except Exception as error:  # it is raised again by the one who reads the results
+            faults.append((number, error))
+        results.put(None)
+
+    count = min(hands, length_hint(tasks, hands))
+    threads = [threading.Thread(target=hand, daemon=True) for _ in range(count)]
+    try:
+        for thread in threads:
+            thread.start()
+        working = count
+        while working:
+            result = results.get()
+            if result is None:
+                working -= 1
+            else:
+                yield result
+        if faults:
+            _, error = min(faults, key=lambda it: it[0])
+            raise error if isinstance(error, ExploreError) else ExploreError(repr(error))
+    finally:
+        stop.set()
+        for twin in twins:
+            twin.close()

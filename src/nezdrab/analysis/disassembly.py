@@ -1,0 +1,72 @@
+"""The program disassemble as a child process."""
+from dataclasses import dataclass
+from typing import Optional, Sequence
+
+from ..core.children import Child, ProgramEnded
+from ..core.errors import ExploreError
+
+
+@dataclass(frozen=True)
+class Instruction:
+    """The text of an instruction, and how many words it took."""
+
+    words: int
+    text: str
+
+
+class Disassemble(Child):
+    """A running disassemble."""
+
+    def send(self, line: str) -> None:
+        try:
+            self.given.write(f"{line}\n".encode())
+            self.given.flush()
+        except OSError as error:
+            raise self.ended() from error
+
+    def line(self) -> str:
+        """The next line that the program writes."""
+        line = self.written.readline()
+        if not line.endswith(b"\n"):
+            raise self.ended()
+        return line[:-1].decode("ascii", "backslashreplace")
+
+
+class Disassembler:
+    """Asks the program disassemble. Without it instructions are shown as `.WORD`."""
+
+    def __init__(self, program: Optional[str]):
+        self.program = program
+        self.child = Disassemble([program]) if program else None
+        self.known: dict[tuple[int, ...], Instruction] = {}
+
+    def instruction(self, address: int, words: Sequence[int]) -> Instruction:
+        """The instruction at this virtual address, from its word and the two that follow."""
+        if self.program is None:
+            return Instruction(1, f".WORD {words[0]:06o}")
+        key = (address, *words)
+        if key not in self.known:
+            reply = self.reply(self.program, " ".join(f"{it:06o}" for it in key))
+            count, _, text = reply.partition(" ")
+            if not count.isdigit():
+                raise ExploreError(f"the disassembler answers {key} with '{reply}'")
+            self.known[key] = Instruction(int(count), text)
+        return self.known[key]
+
+    def reply(self, program: str, line: str) -> str:
+        """The reply to a line. If the program ends, or Ctrl-C comes before the reply, the next line
+        starts it again: otherwise it would get the reply to this one."""
+        self.child = self.child or Disassemble([program])
+        try:
+            self.child.send(line)
+            return self.child.line()
+        except BaseException as error:
+            self.close()
+            if isinstance(error, ProgramEnded):
+                raise ExploreError(f"disassemble: {error}") from error
+            raise
+
+    def close(self) -> None:
+        if self.child is not None:
+            self.child.close()
+            self.child = None

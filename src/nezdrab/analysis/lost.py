@@ -1,0 +1,131 @@
+"""Which runs of an instruction have left nothing: `lost`."""
+from dataclasses import dataclass, field
+from typing import Iterator
+
+from ..core.engine import Machine
+from ..core.errors import ExploreError
+from ..core.in_words import counted, span
+from ..core.interrupts import INTERRUPTS
+from ..core.replies import INSTRUCTION, MODES, Mode
+from .cells import is_core, is_of_drive, is_register
+from .commands import Arguments, Explorer, command, turns_between
+from .labels import RESULTS, Labels
+from .listing import turns_in_words
+from .operands import Flow
+from .search import word_of
+from .turn_flow import flows_with_bar
+
+MOST_RUNS, MOST_LINES = 4_096, 60
+
+
+@dataclass
+class Runs:
+    """The runs of an instruction, each with a label of its own."""
+
+    machine: Machine
+    pc: int
+    mode: int
+    turns: list[int] = field(default_factory=list)
+    labels: Labels = field(default_factory=Labels)
+    without_result: int = 0  # runs that wrote no word and no register
+    end: int = 0  # the turn before which the walk is
+
+    def walk(self, turns: range) -> None:
+        """Walks over these turns. Before the first run there is nothing to carry."""
+        self.end = turns.start
+        found = self.machine.found("first", turns, f"at {self.pc:o} {MODES[self.mode].value}")
+        if found is None:
+            self.end = turns.stop
+            return
+        for flow in flows_with_bar(self.machine, range(found, turns.stop)):
+            self.take(flow)
+
+    def take(self, flow: Flow) -> None:
+        if flow.transfer is not None:
+            self.labels.transfer(flow.transfer)
+        self.labels.turn(flow.moves, self.label(flow))
+        self.end = flow.turn + 1
+
+    def label(self, flow: Flow) -> int:
+        """The label of what the turn writes, if it runs the instruction to its end."""
+        is_here = flow.act.pc == self.pc and flow.mode == self.mode
+        if not is_here or flow.act.act != INSTRUCTION or flow.vector is not None:
+            return 0
+        if not any(it.how in RESULTS for it in flow.moves):
+            self.without_result += 1
+            return 0
+        if len(self.turns) == MOST_RUNS:
+            raise ExploreError(f"there are more than {MOST_RUNS} runs; name fewer turns")
+        self.turns.append(flow.turn)
+        return 1 << len(self.turns) - 1
+
+    @property
+    def count(self) -> int:
+        return len(self.turns) + self.without_result
+
+    @property
+    def place(self) -> str:
+        return f"{MODES[self.mode].value} {self.pc:06o}"
+
+    def left(self) -> tuple[int, int]:
+        """The labels on the drives, and those in core and in registers."""
+        on_disk = in_core = 0
+        for cell, labels in self.labels.bits.items():
+            if is_of_drive(cell):
+                on_disk |= labels
+            elif is_core(cell) or is_register(cell):
+                in_core |= labels
+        return on_disk, in_core
+
+
+@command(
+    "lost PC A [user|kernel] from N to M",
+    r"(PC|pc) <address:address>( (?P<mode>user|kernel))? from <first:decimal> to <last:decimal>",
+    "the runs of an instruction that have left nothing on the disk",
+)
+def lost(explorer: Explorer, arguments: Arguments) -> Iterator[str]:
+    """Follows what each run of the instruction at A wrote, over the turns N to M, and shows the
+    runs of which nothing is left after turn M: on no drive, but in core or a register; or nowhere.
+    A is an address as the program has it, in kernel mode if none is named. A run that traps
+    doesn't count. 'Left' is of data, as in `follow`: a word that was only counted with, or that
+    decided a branch, is none. Only writes of the disk in the turns N to M bring something to a
+    drive. Ctrl-C ends it, and what was found up to there is shown."""
+    turns = turns_between(arguments.decimal("first"), arguments.decimal("last"))
+    pc, mode = word_of(arguments, "address"), MODES.index(Mode(arguments.text("mode") or "kernel"))
+    runs = Runs(explorer.machine, pc, mode)
+    stopped = ""
+    try:
+        runs.walk(turns)
+    except KeyboardInterrupt:
+        INTERRUPTS.again()
+        stopped = "stopped"
+    except ExploreError as error:
+        stopped = str(error)
+    yield from lines_of(explorer, runs, range(turns.start, max(runs.end, turns.start + 1)))
+    if stopped:
+        yield f"the turns from {runs.end} on weren't looked at: {stopped}"
+
+
+def lines_of(explorer: Explorer, runs: Runs, turns: range) -> Iterator[str]:
+    on_disk, in_core = runs.left()
+    kept = [at for at in range(len(runs.turns)) if not on_disk >> at & 1]
+    gone = [at for at in kept if not in_core >> at & 1]
+    shown = [runs.turns[at] for at in kept[:MOST_LINES]]
+    for at, turn, text in zip(kept, shown, turns_in_words(explorer, shown)):
+        where = "in core or a register, not on the disk" if in_core >> at & 1 else NOTHING_LEFT
+        yield f"turn {turn}: {text}: {where}"
+    if len(kept) > len(shown):
+        yield f".. {counted(len(kept) - len(shown), 'run')} more"
+    yield f"{counted(runs.count, 'run')} of {runs.place} in {span(turns)}: " + ", ".join(
+        f"{count} {what}"
+        for count, what in (
+            (len(runs.turns) - len(kept), "on the disk"),
+            (len(kept) - len(gone), "in core or a register alone"),
+            (len(gone), "left nothing"),
+            (runs.without_result, "wrote no word and no register"),
+        )
+        if count or what == "left nothing"
+    )
+
+
+NOTHING_LEFT = "nothing of it is left"

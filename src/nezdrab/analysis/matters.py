@@ -1,0 +1,317 @@
+"""Which events a reply depends on, and how near a move of each changes it: `matters`."""
+import re
+from dataclasses import dataclass, field
+from pathlib import Path
+from typing import Iterable, Iterator, Optional, Sequence
+
+from ..core import sessions
+from ..core.asked import NAMES
+from ..core.engine import LAST_TURN, Machine, is_refused
+from ..core.errors import ExploreError
+from ..core.in_words import counted, some_are
+from ..core.interrupts import INTERRUPTS
+from ..core.language import comma_fault, explanation
+from ..core.past import Event
+from ..core.sessions import words_of
+from .commands import Arguments, Explorer, command
+from .crew import Progress, each_of
+from .matters_table import Row, table
+from .moves import Change, Moves, Task, Trial, Tried, Way, common, in_one_line
+from .quotes import files_of, quote_fault
+from .result_files import ResultFile, job_lines, kept_in
+from .sweep import check_question, digest_of
+from .sweep_fades import end_of
+from .work_options import WorkOptions
+
+USUAL_MOST = 1_024
+LEAST_STRIDE, STATES = 50_000, 8  # few states between a move and the question: each is taken over
+JOBS = 64
+FORM = "matters [E ..] [within C|near C]: QUESTION"
+MATTERS = re.compile(
+    r"(?P<events>[0-9]{1,10}( [0-9]{1,10})*)?"
+    r"((^| )(?P<how>within|near)( (?P<most>[0-9]{1,10}))?)? ?: ?(?P<question>.+)"
+)
+HEADING = re.compile(
+    r"# matters(?P<near> near)?: (?P<question>.+), past [0-9a-f]{16}, reply (?P<reply>.*)"
+)
+RESULT = re.compile(
+    r"(?P<event>[0-9]{1,10}) (?P<turn>[0-9]{1,10}) (?P<text>[a-z]+( [0-7]{1,6})?): "
+    r"(?P<way>dropped|earlier|later) (?P<first>[0-9]{1,10}) (?P<last>[0-9]{1,10}) (?P<reply>.+)"
+)
+SAME = "same"
+
+
+@dataclass
+class Results:
+    """What is known of the moves, in lines `EVENT TURN WHAT: WAY FIRST LAST REPLY` of a file after
+    a heading. The reply is that of the move by LAST turns, and `same` before it; or all are. The
+    events of a file are those of the script, if there is one."""
+
+    heading: str
+    script: Optional[Sequence[Event]] = None
+    tried: dict[tuple[Event, Way], Tried] = field(default_factory=dict)
+
+    def of(self, event: Event, way: Way) -> Tried:
+        return self.tried.setdefault((event, way), Tried())
+
+    def add(self, task: Task, change: Optional[Change]) -> str:
+        """Takes in what came of a task. Returns its line for a file."""
+        first, last = task.shifts[0], task.shifts[-1]
+        last = change.shift if change else last
+        self.of(task.event, task.way).add(range(first, last + 1), change)
+        event = f"{task.event.number} {task.event.turn} {task.event.text}"
+        return f"{event}: {task.way.value} {first} {last} {change.reply if change else SAME}"
+
+    def read(self, path: Path) -> None:
+        """Adds what a file has. A last line without its end was cut off, and counts for nothing."""
+        try:
+            self.take(path, path.read_text(errors="replace"))
+        except OSError as error:
+            raise ExploreError(f"{path}: {error.strerror}") from error
+
+    def take(self, path: Path, text: str) -> None:
+        """Adds what the text of a file has."""
+        known = None if self.script is None else frozenset(self.script)
+        for number, line in enumerate(text.split("\n")[:-1], 1):
+            self.heading = self.heading or line
+            found = RESULT.fullmatch(line)
+            event = event_of(found) if found else None
+            is_foreign = event is not None and known is not None and event not in known
+            if is_foreign or line.startswith("#") and line != self.heading:
+                said = "of another question, or of another past"
+                raise ExploreError(f"{path}:{number}: {said}: {line}")
+            if found and event:
+                self.take_result(event, found)
+            elif not HEADING.fullmatch(line):
+                raise ExploreError(f"{path}:{number}: no line of matters")
+
+    def take_result(self, event: Event, found: "re.Match[str]") -> None:
+        first, last = int(found["first"]), int(found["last"])
+        change = None if found["reply"] == SAME else Change(last, found["reply"])
+        self.of(event, Way(found["way"])).add(range(first, last + 1), change)
+
+    def rows(self, events: Iterable[Event]) -> list[Row]:
+        return [Row(it, {way: self.of(it, way) for way in Way}) for it in events]
+
+    @property
+    def has_some(self) -> bool:
+        return any(it.known for it in self.tried.values())
+
+    def count(self, event: Event, way: Way, moves: range) -> int:
+        """How many of these moves are known."""
+        return sum(len(common(it, moves)) for it in self.of(event, way).known)
+
+
+def event_of(found: "re.Match[str]") -> Event:
+    return Event(int(found["event"]), int(found["turn"]), found["text"])
+
+
+@dataclass(frozen=True)
+class Matters:
+    """What a line asks: the moves, and the events that are moved."""
+
+    moves: Moves
+    events: Sequence[Event]
+    left_out: int  # events that no move brings before the end, if none are named
+
+    @classmethod
+    def of(cls, machine: Machine, text: str) -> "Matters":
+        match = MATTERS.fullmatch(" ".join(words_of(text)))
+        if match is None:
+            commas = comma_fault(text)
+            raise ExploreError(f"{commas}; " * bool(commas) + f"the form is: {FORM}")
+        most = int(match["most"] or USUAL_MOST)
+        if not 1 <= most <= LAST_TURN:
+            raise ExploreError(f"C is 1 to {LAST_TURN}")
+        question = match["question"]
+        check_question(question)
+        word = sessions.first_word(question)
+        if word not in NAMES:
+            known = ", ".join(sorted(NAMES))
+            raise ExploreError(f"'{word}' is no question here, which names its turn: {known}")
+        reply = reply_of(machine, question)
+        moves = Moves(question, reply, end_of(question), most, match["how"] == "near")
+        named = [int(it) for it in (match["events"] or "").split()]
+        events = events_of(machine, moves, named)
+        return cls(moves, events, 0 if named else len(machine.script) - len(events))
+
+    def heading(self, machine: Machine) -> str:
+        """What results are of: the question, the past and its reply."""
+        near = " near" if self.moves.is_near else ""
+        past = f"past {digest_of(machine)}, reply {self.moves.reply}"
+        return f"# matters{near}: {self.moves.question}, {past}"
+
+    @property
+    def runs(self) -> dict[tuple[Event, Way], range]:
+        """The moves of each event in each way that need a run."""
+        pairs = ((event, way) for event in self.events for way in Way)
+        return {pair: self.moves.runs(*pair) for pair in pairs}
+
+    @property
+    def count(self) -> int:
+        """How many moves there are to try."""
+        return sum(map(len, self.runs.values()))
+
+    @property
+    def most_runs(self) -> int:
+        """How many of them are tried at most, one after the other."""
+        doubled = 2 * self.moves.most.bit_length()
+        is_near = self.moves.is_near
+        return sum(min(len(it), doubled) if is_near else len(it) for it in self.runs.values())
+
+    def known(self, results: Results) -> int:
+        """How many of them are known."""
+        return sum(results.count(*pair, runs) for pair, runs in self.runs.items())
+
+    def tasks(self, results: Results) -> Iterator[Task]:
+        """What isn't known yet, the nearest moves of all events first. No move of an event is tried
+        that is farther than one that is known to change the reply."""
+        left = [self.tasks_left(results.of(it, way), it, way) for it in self.events for way in Way]
+        while left:
+            tasks = [next(it, None) for it in left]
+            left = [it for it, task in zip(left, tasks) if task]
+            yield from filter(None, tasks)
+
+    def tasks_left(self, tried: Tried, event: Event, way: Way) -> Iterator[Task]:
+        for task in self.moves.tasks_of(event, way):
+            if tried.is_nearest or tried.change and tried.change.shift < task.shifts.start:
+                return
+            if not tried.has(task.shifts):
+                yield task
+
+
+def reply_of(machine: Machine, question: str) -> str:
+    """The reply without a move. An error if the question is refused."""
+    reply = machine.ask(question)
+    if is_refused(reply):
+        why = explanation(question, reply, machine.setup.version)
+        raise ExploreError(f"{question}: {reply}: {why}")
+    return in_one_line(reply)
+
+
+def events_of(machine: Machine, moves: Moves, named: Sequence[int]) -> list[Event]:
+    """The events that are named, or all that can matter."""
+    if not named:
+        return [it for it in machine.script if moves.can_matter(it)]
+    numbers = {it.number: it for it in machine.script}
+    missing = [it for it in named if it not in numbers]
+    if missing:
+        raise ExploreError(f"no event has the number {missing[0]}; events lists them")
+    return [numbers[it] for it in dict.fromkeys(named)]
+
+
+def tried(
+    machine: Machine, matters: Matters, results: Results, hands: int
+) -> Iterator[tuple[Task, Optional[Change]]]:
+    """What comes of each task, as it comes."""
+    moves, trial = matters.moves, Trial(machine, matters.moves)
+    stride = max(LEAST_STRIDE, moves.end // STATES)
+    hands = min(hands, 3 * len(matters.events))
+    with Progress(matters.count - matters.known(results), "moves") as progress:
+        for task, change in each_of(machine, matters.tasks(results), trial.change, hands, stride):
+            farthest = moves.runs(task.event, task.way).stop
+            done = (farthest if change else task.runs.stop) - task.runs.start
+            progress.step(min(done, progress.total - progress.done))
+            yield task, change
+
+
+def lines_of(
+    explorer: Explorer, matters: Matters, hands: int, path: Optional[Path]
+) -> Iterator[str]:
+    machine, moves = explorer.machine, matters.moves
+    results = Results(matters.heading(machine), machine.script)
+    file = ResultFile(results, path, "matters") if path else None
+    stopped = ""
+    try:
+        for task, change in tried(machine, matters, results, hands) if matters.events else ():
+            line = results.add(task, change)
+            if file:
+                file.add(line)
+    except KeyboardInterrupt:
+        stopped = "stopped"
+    except ExploreError as error:
+        if not results.has_some:
+            raise
+        stopped = str(error)
+    finally:
+        if file:
+            file.close()
+    INTERRUPTS.again()
+    yield from table(moves.question, moves.reply, results.rows(matters.events), moves.is_near)
+    if matters.left_out:
+        events_are = counted(matters.left_out, "event")
+        yield f"left out: {events_are}, which no such move brings before turn {moves.end}"
+    if stopped:
+        moves_are = some_are(matters.known(results), matters.count, "move")
+        yield f"{stopped}: {moves_are} tried{kept_in(path)}"
+
+
+def parts_of(machine: Machine, matters: Matters) -> Iterator[str]:
+    """The same for some of the events each. The session of the parts numbers its events anew."""
+    moves, script = matters.moves, machine.script
+    places = {event: str(at) for at, event in enumerate(script, 1)}
+    how = f"{'near' if moves.is_near else 'within'} {moves.most}"
+    size = max(1, -(-len(matters.events) // JOBS))
+    for at in range(0, len(matters.events), size):
+        part = matters.events[at : at + size]
+        yield f"{' '.join(places[it] for it in part)} {how}: {moves.question}"
+
+
+def gathered(paths: Sequence[str]) -> Iterator[str]:
+    if not paths:
+        raise ExploreError("the form is: matters --gather FILE ..")
+    results = Results("")
+    for path in paths:
+        results.read(Path(path))
+    heading = HEADING.fullmatch(results.heading)
+    if heading is None:
+        raise ExploreError(f"{paths[0]} has no results")
+    rows = results.rows({event for event, _ in results.tried})
+    yield from table(heading["question"], heading["reply"], rows, bool(heading["near"]))
+
+
+@command(
+    "matters [-j N] [-o FILE] [-y] [--jobs FILE] [E ..] [within C|near C]: QUESTION"
+    "  or  matters --gather FILE ..",
+    r"(?P<words>.+)",
+    "which events a reply depends on, and by how few turns",
+)
+def matters_command(explorer: Explorer, arguments: Arguments) -> Iterator[str]:
+    """Asks QUESTION, a line of the language that names its turn, with each event dropped, and moved
+    earlier and later by 1 turn, by 2 and so on up to C turns, without `within` up to 1024. It shows
+    the nearest move that changes the reply, and the reply then, cut at .. if it is long. The events
+    that the smallest moves matter of come first. Numbers E name the events to try; without them all
+    are tried. A moved event comes last in its new turn. The past stays as it is.
+    `same (to C)` is exact: each of these moves was tried, but for those that can't matter before
+    the turn of QUESTION, and those of a key from a turn in which the program doesn't notice it to
+    the next one: both make the same run. With `near C` moves of 1, 2, 4, 8 turns and so on are
+    tried until one changes the reply, and then halves. That takes far fewer runs, and may miss a
+    nearer move, or the only one.
+    -j N, -o FILE, -y, --jobs FILE and --gather FILE .. are those of `sweep`."""
+    words = arguments.text("words")
+    wrong = quote_fault(words)
+    if wrong:
+        raise ExploreError(wrong)
+    if words_of(words)[0] == "--gather":
+        yield from gathered(files_of(words)[1:])
+        return
+    options = WorkOptions(words, ["-y"])
+    head, colon, question = options.words.partition(":")
+    question = explorer.symbols.line_in_octal(question, explorer.machine)
+    matters = Matters.of(explorer.machine, f"{head}{colon}{question}")
+    options.check(explorer, "matters", matters.most_runs, "moves")
+    jobs = options.path("--jobs")
+    if jobs:
+        parts = list(parts_of(explorer.machine, matters))
+        yield from job_lines(explorer.machine, "matters", parts, jobs)
+    else:
+        yield from lines_of(explorer, matters, options.hands, options.path("-o"))
+
+
+def raw_lines(explorer: Explorer, text: str) -> Iterator[str]:
+    """What one job does: a heading, and a line for each task."""
+    matters = Matters.of(explorer.machine, text)
+    results = Results(matters.heading(explorer.machine))
+    yield results.heading
+    for task, change in tried(explorer.machine, matters, results, 1):
+        yield results.add(task, change)

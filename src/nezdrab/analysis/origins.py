@@ -1,0 +1,287 @@
+"""What a value is made of, backwards over the turns: each cell comes from one write, and that is
+made of cells before it, down to events and to what is there since power-up."""
+import bisect
+import heapq
+from collections import defaultdict
+from dataclasses import dataclass
+from enum import IntEnum
+from typing import Iterator, NamedTuple, Optional, Sequence
+
+from ..core.engine import Machine
+from ..core.errors import ExploreError
+from ..core.interrupts import INTERRUPTS
+from .cells import INPUTS, KEPT, PC, PRB, byte_of_drive, drive_cell, first_of, is_core, is_of_drive
+from .cells import is_on_bus
+from .crew import Progress
+from .labels import ADDRESS_OF_A_TRANSFER, events_with_data
+from .operands import Flow
+from .transfers import Transfer, transfers_in
+from .turn_flow import Flows
+
+BLOCK, WINDOW_DELAYS, WINDOW_TURNS = 64, 32, 1000
+# How far back one write is looked for: in turns that are decoded, and in looks at the disk.
+MOST_TURNS_BACK, MOST_LOOKS = 20_000, 20_000
+
+
+class Kind(IntEnum):
+    """A write by the act of a turn or by the disk; or where the way back ends."""
+
+    MADE = 0
+    MOVED = 1
+    EVENT = 2
+    START = 3  # there since power-up
+    TAPE = 4
+    DEVICE = 5  # the state of a device, or of memory management
+    POINT = 6  # where the program stands
+    TOO_FAR = 7  # not found as far back as it was looked for
+
+
+class Origin(NamedTuple):
+    """A write or an end. `at` is the number of the move in its turn, of the cell, or of the
+    event."""
+
+    kind: Kind
+    turn: int
+    at: int
+
+    @property
+    def is_write(self) -> bool:
+        return self.kind <= Kind.MOVED
+
+
+class Input(NamedTuple):
+    """A cell that a value is made of, and where it comes from."""
+
+    cell: int
+    origin: Origin
+
+
+@dataclass(frozen=True)
+class Graph:
+    """The writes that the roots come from, each with its inputs, and those not followed."""
+
+    roots: Sequence[Origin]
+    inputs: dict[Origin, list[Input]]
+    left: frozenset[Origin]
+    stopped: str = ""  # by what, if by anything but the limit
+
+    @property
+    def is_whole(self) -> bool:
+        return not self.left and not any(it.kind == Kind.TOO_FAR for it in self.inputs)
+
+    def events(self) -> list[int]:
+        return sorted({it.at for it in self.inputs if it.kind == Kind.EVENT})
+
+
+class Origins:
+    """Finds the origins of cells before turn `end`. Turns are decoded in blocks, when they are
+    needed."""
+
+    def __init__(self, machine: Machine, end: int, places: bool = False):
+        self.machine, self.end, self.places = machine, end, places
+        self.flows: dict[int, Flow] = {}
+        self.written: dict[int, dict[int, list[tuple[int, int]]]] = {}
+        self.lasts: dict[tuple[int, int], Optional[tuple[int, str]]] = {}
+        self.windows: dict[int, list[Transfer]] = {}
+        self.moved_in: dict[int, Transfer] = {}
+        self.window = max(WINDOW_TURNS, WINDOW_DELAYS * machine.setup.delays["disk"])
+        self.brought: dict[int, list[tuple[int, int]]] = defaultdict(list)
+        for event in events_with_data(machine):
+            for cell in event.cells:
+                self.brought[cell].append((event.turn, event.number))
+
+    # Turns
+
+    def flow(self, turn: int) -> Flow:
+        if turn not in self.flows:
+            self.decode(turn - turn % BLOCK)
+        return self.flows[turn]
+
+    def decode(self, first: int) -> None:
+        written: dict[int, list[tuple[int, int]]] = defaultdict(list)
+        for flow in Flows(self.machine, range(first, min(first + BLOCK, self.end))):
+            self.flows[flow.turn] = flow
+            for number, it in enumerate(flow.moves):
+                if not is_core(it.cell):
+                    written[it.cell].append((flow.turn, number))
+        self.written[first] = written
+
+    # Origins
+
+    def before(self, cell: int, turn: int) -> Origin:
+        """The origin of a cell before a turn."""
+        return self.outside(cell, turn, turn - 1)
+
+    def of_input(self, cell: int, turn: int, number: int) -> Origin:
+        """The origin of a cell that this move of the turn reads: what was before its instant."""
+        flow = self.flow(turn)
+        begin = first_of_instant(flow, number)
+        found = written_in(flow, cell, begin)
+        return self.outside(cell, turn, turn) if found is None else found
+
+    def outside(self, cell: int, turn: int, begun: int) -> Origin:
+        """The origin of a cell in a write before the turn, or in the beginning of turn `begun`."""
+        if cell == PC:
+            return Origin(Kind.POINT, turn, 0)
+        if is_core(cell):
+            return self.in_core(cell, turn, begun)
+        if is_of_drive(cell):
+            return self.on_drive(cell, begun)
+        if is_on_bus(cell) and cell & ~1 not in KEPT:
+            return self.of_device(cell, turn, begun)
+        return self.in_register(cell, turn)
+
+    def in_core(self, cell: int, turn: int, begun: int) -> Origin:
+        moved = self.flow(turn).transfer if begun == turn else None
+        if moved is not None and moved.is_read and cell & ~1 in moved.in_core:
+            return Origin(Kind.MOVED, turn, cell)
+        while True:
+            last = self.last(turn, cell & ~1)
+            if last is None:
+                return Origin(Kind.START, 0, first_of(cell))
+            turn, writer = last
+            if writer == "disk":
+                return Origin(Kind.MOVED, turn, cell)
+            found = written_in(self.flow(turn), cell, len(self.flow(turn).moves))
+            if found is not None:
+                return found
+            # only the other byte was written by the act
+
+    def last(self, turn: int, address: int) -> Optional[tuple[int, str]]:
+        key = turn, address
+        if key not in self.lasts:
+            last = self.machine.last(turn, address)
+            self.lasts[key] = None if last is None else (last.turn, last.writer)
+        return self.lasts[key]
+
+    def of_device(self, cell: int, turn: int, begun: int) -> Origin:
+        if cell & ~1 not in INPUTS:
+            return Origin(Kind.DEVICE, turn, cell & ~1)
+        if cell & ~1 == PRB:
+            return Origin(Kind.TAPE, turn, PRB)
+        events = self.brought.get(cell, [])
+        at = bisect.bisect_right(events, (begun, 1 << 40))
+        if at:
+            return Origin(Kind.EVENT, events[at - 1][0], events[at - 1][1])
+        return Origin(Kind.START, 0, cell & ~1)
+
+    def in_register(self, cell: int, turn: int) -> Origin:
+        first = turn - turn % BLOCK
+        while first >= 0 and turn - first < MOST_TURNS_BACK:
+            if first not in self.written:
+                self.decode(first)
+            writes = self.written[first].get(cell, [])
+            at = bisect.bisect_left(writes, (turn, 0))
+            if at:
+                return Origin(Kind.MADE, *writes[at - 1])
+            first -= BLOCK
+        return Origin(Kind.START, 0, first_of(cell)) if first < 0 else too_far(turn, cell)
+
+    def on_drive(self, cell: int, begun: int) -> Origin:
+        """The last write of the disk to a byte of a drive, up to the beginning of this turn."""
+        drive, word = byte_of_drive(cell).drive, byte_of_drive(cell).word
+        delay = self.machine.setup.delays["disk"] or self.window
+        for number in range(begun // self.window, -1, -1):
+            for it in self.disk_writes(number):
+                if it.turn <= begun and it.drive == drive and word in it.on_drive:
+                    return Origin(Kind.MOVED, it.turn, cell)
+            if (begun - number * self.window) // delay > MOST_LOOKS:
+                return too_far(begun, cell)
+        return Origin(Kind.START, 0, first_of(cell))
+
+    def disk_writes(self, number: int) -> list[Transfer]:
+        """The writes of the disk that complete in this window of turns, the last first."""
+        if number not in self.windows:
+            turns = range(number * self.window, min((number + 1) * self.window, self.end))
+            found = transfers_in(self.machine, turns)[::-1]
+            self.windows[number] = [it for it in found if not it.is_read]
+        return self.windows[number]
+
+    def transfer(self, turn: int) -> Transfer:
+        """The transfer that completes in this turn."""
+        if turn not in self.moved_in:
+            found = transfers_in(self.machine, range(turn, turn + 1))
+            if not found:
+                raise ExploreError(f"turn {turn}: the rules don't explain what the disk moves")
+            (self.moved_in[turn],) = found
+        return self.moved_in[turn]
+
+    # The way back
+
+    def inputs(self, origin: Origin) -> list[Input]:
+        if origin.kind == Kind.MADE:
+            move = self.flow(origin.turn).moves[origin.at]
+            cells = dict.fromkeys(move.values + (move.addresses if self.places else ()))
+            return [Input(it, self.of_input(it, origin.turn, origin.at)) for it in cells]
+        return list(self.moved(origin)) if origin.kind == Kind.MOVED else []
+
+    def moved(self, origin: Origin) -> Iterator[Input]:
+        """What a cell that the disk has written comes from."""
+        turn, cell = origin.turn, origin.at
+        found = self.transfer(turn)
+        if found.is_read:
+            source = drive_cell(found.drive, found.drive_word(cell & ~1), cell & 1)
+            yield Input(source, self.outside(source, turn, turn - 1))
+        else:
+            address = found.core_address(byte_of_drive(cell).word)
+            if address is not None:
+                source = address + (cell & 1)
+                yield Input(source, self.outside(source, turn, turn - 1))
+        for it in ADDRESS_OF_A_TRANSFER if self.places else ():
+            yield Input(it, self.in_register(it, turn))
+
+    def graph(self, roots: Sequence[Origin], most: int) -> Graph:
+        """The latest turns first. After this number of writes, Ctrl-C, or a turn that isn't
+        explained, the others aren't followed."""
+        inputs: dict[Origin, list[Input]] = {it: [] for it in roots if not it.is_write}
+        todo = [(-it.turn, it) for it in roots if it.is_write]
+        heapq.heapify(todo)
+        stopped = ""
+        try:
+            with Progress(most, "steps") as progress:
+                while todo and progress.done < most:
+                    _, origin = todo[0]
+                    if origin not in inputs:
+                        self.add(origin, inputs, todo)
+                        progress.step()
+                    else:
+                        heapq.heappop(todo)
+        except KeyboardInterrupt:
+            INTERRUPTS.again()
+            stopped = "stopped"
+        except ExploreError as error:
+            stopped = str(error)
+        left = frozenset(it for _, it in todo if it not in inputs)
+        inputs.update((it, []) for it in left)
+        return Graph(roots, inputs, left, stopped)
+
+    def add(
+        self, origin: Origin, inputs: dict[Origin, list[Input]], todo: list[tuple[int, Origin]]
+    ) -> None:
+        """Takes a write in, and what it comes from."""
+        found = self.inputs(origin)
+        inputs[origin] = found
+        for _, it in found:
+            if not it.is_write:
+                inputs[it] = []
+            elif it not in inputs:
+                heapq.heappush(todo, (-it.turn, it))
+
+
+def too_far(turn: int, cell: int) -> Origin:
+    return Origin(Kind.TOO_FAR, turn, first_of(cell))
+
+
+def first_of_instant(flow: Flow, number: int) -> int:
+    moves = flow.moves
+    while number and moves[number - 1].instant == moves[number].instant:
+        number -= 1
+    return number
+
+
+def written_in(flow: Flow, cell: int, end: int) -> Optional[Origin]:
+    """The last write of a cell by the moves of the turn before number `end`."""
+    for number in range(end - 1, -1, -1):
+        if flow.moves[number].cell == cell:
+            return Origin(Kind.MADE, flow.turn, number)
+    return None

@@ -1,0 +1,58 @@
+"""What was asked of a machine: up to which turn, and how often it had to go back. A question about
+a later turn goes on from the one before it; one about an earlier turn begins again at a state that
+the program kept, which may be many turns before. So a search asks upwards, or by halving."""
+from dataclasses import dataclass
+from typing import Iterable, Optional
+
+from . import sessions
+from .language import is_decimal
+
+# Not `when F`. `fades` leaves the machine wherever it was found out.
+SEARCHES = [it for it in sessions.SEARCHES if " N" in it.form and "EDIT" not in it.form]
+QUESTIONS = sessions.QUESTIONS | {sessions.command_of(it) for it in SEARCHES}
+NAMES = frozenset(it.decode() for it in QUESTIONS)
+MOST_DIGITS = 10
+
+
+def turns_of_question(line: str) -> Optional[tuple[int, int]]:
+    """The turns that the machine must be at before and after its reply, or None for another line.
+    A trail begins at the first turn that it lists. Where a search ends its reply tells; `counts`
+    runs to the end of its turns, and so does `latest` at first."""
+    words = sessions.words_of(line) if sessions.first_word(line) in NAMES else []
+    if len(words) < 2 or not is_decimal(words[1]):
+        return None
+    turn = int(words[1][:MOST_DIGITS])
+    if len(words) > 2 and is_decimal(words[2]):
+        number = int(words[2][:MOST_DIGITS])
+        if words[0] == "trail" and len(words) == 3:
+            return max(0, turn - number), turn
+        if words[0] in ("latest", "counts"):
+            return turn, number
+    return turn, turn
+
+
+@dataclass
+class Asked:
+    """The turn of the last question, the greatest one, how many questions were about an earlier
+    turn than the question before them, and how many there were. A program that was started again
+    is at turn 0."""
+
+    turn: int = 0
+    greatest: int = 0
+    went_back: int = 0
+    questions: int = 0
+
+    def reach(self, turn: int) -> None:
+        """A search took the machine to this turn."""
+        self.turn, self.greatest = turn, max(self.greatest, turn)
+
+    def note(self, lines: Iterable[str]) -> None:
+        """These lines were asked, and none was refused."""
+        for line in lines:
+            turns = turns_of_question(line)
+            if turns is not None:
+                first, last = turns
+                self.questions += 1
+                self.went_back += first < self.turn
+                self.turn = last
+                self.greatest = max(self.greatest, last)

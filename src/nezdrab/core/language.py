@@ -1,0 +1,158 @@
+"""The forms of the session language, and which word of a refused line is the wrong one."""
+import re
+from dataclasses import dataclass
+from typing import Optional
+
+from . import sessions
+from .past import LINE_DEVICES, PATCHES
+from .program import CONTROL
+from .sessions import words_of
+from .visible import visible
+
+OCTAL, DECIMAL = frozenset("01234567"), frozenset("0123456789")
+LONGEST_LINE, MOST_DIGITS = sessions.LONGEST_LINE, 10
+
+
+def comma_fault(words: str) -> str:
+    """What is wrong with the first number that is written with commas, if there is one."""
+    match = re.search(r"(?<!\S)[0-9]{1,3}(,[0-9]{3})+(?![^\s:])", words)
+    return f"{match[0]} is written {match[0].replace(',', '')}, without commas" if match else ""
+
+
+@dataclass(frozen=True)
+class Number:
+    """A number of the language, by its letter."""
+
+    title: str
+    digits: frozenset[str]
+    largest: Optional[int] = None
+
+    def fault(self, letter: str, word: str) -> Optional[str]:
+        base = "octal" if self.digits == OCTAL else "decimal"
+        wrong = sorted(set(word) - self.digits)
+        if comma_fault(word):
+            return f"{letter}, {self.title}: {comma_fault(word)}"
+        if wrong:
+            return f"{letter}, {self.title}, is {base}, and '{word}' has '{wrong[0]}'"
+        if len(word) > MOST_DIGITS:
+            return f"{letter}, {self.title}, has {len(word)} digits, more than {MOST_DIGITS}"
+        if self.largest is not None and int(word, 8) > self.largest:
+            return f"{letter}, {self.title}, is {word}, more than {self.largest:o}"
+        return None
+
+
+NUMBERS = {
+    "A": Number("an address of core", OCTAL),
+    "I": Number("the number of a word of a drive", OCTAL),
+    "D": Number("a drive", OCTAL),
+    "W": Number("a word", OCTAL, 0o177777),
+    "B": Number("a byte", OCTAL, 0o377),
+    "N": Number("a turn, or a count of turns", DECIMAL),
+    "T": Number("a turn", DECIMAL),
+    "C": Number("a count", DECIMAL),
+    "E": Number("the number of an event", DECIMAL),
+}
+
+
+def word_of(line: sessions.Line) -> str:
+    return line.form.split()[0]
+
+
+def rest_of(line: sessions.Line) -> str:
+    """The form of a line without its first word."""
+    return line.form.partition(" ")[2].replace("B B ..", "B ..").replace("EVENT", "event")
+
+
+# The lines of the language by their first words; those of version 2 come last and stand apart.
+SINCE_VERSION_2 = [it.form for it in sessions.LANGUAGE].index("version 2")
+FORMS = {word_of(it): rest_of(it) for it in sessions.LANGUAGE[: SINCE_VERSION_2 + 1]}
+FORMS_OF_EIGHT_DRIVES = {
+    word_of(it): rest_of(it) for it in sessions.LANGUAGE[SINCE_VERSION_2 + 1 :]
+}
+SUMMARIES = {word_of(it): it.summary for it in sessions.LANGUAGE[: SINCE_VERSION_2 + 1]}
+# Lines of searches without a turn, such as `setup`.
+LISTS = {it.form: it.summary for it in sessions.SEARCHES if " " not in it.form}
+SEARCHES = frozenset(word_of(it) for it in sessions.SEARCHES) - LISTS.keys()
+EDITS = frozenset(it.decode() for it in sessions.EDITS)
+FADING = (*PATCHES, "at", "alter", "drop")  # the edits that the line `fades` takes
+EVENTS, MEANINGS = sessions.EVENTS, sessions.REFUSALS
+
+
+def is_edit(line: str) -> bool:
+    return sessions.first_word(line) in EDITS
+
+
+def is_decimal(word: str) -> bool:
+    return word != "" and DECIMAL.issuperset(word)
+
+
+def form_of(word: str, version: int) -> str:
+    """The form of a line that begins with this word, such as `core A W`."""
+    own: dict[str, str] = FORMS_OF_EIGHT_DRIVES if version == 2 else {}
+    return f"{word} {own.get(word, FORMS[word])}".rstrip()
+
+
+def fault_of_event(words: list[str]) -> Optional[str]:
+    if not words:
+        return "the event is missing"
+    if words[0] not in EVENTS:
+        known = ", ".join(f"{name} {EVENTS[name]}".rstrip() for name in EVENTS)
+        return f"there is no event '{words[0]}'; events are {known}"
+    return fault_of_words(EVENTS[words[0]].split(), words[1:])
+
+
+def fault_of_words(letters: list[str], words: list[str]) -> Optional[str]:
+    """What is wrong with the words in the places of these letters."""
+    for at, letter in enumerate(letters):
+        if letter == "event":
+            return fault_of_event(words[at:])
+        if letter == "..":
+            letter, words = "B", words[:at] + words[at:]
+            found = (NUMBERS["B"].fault("B", it) for it in words[at:])
+            return next((it for it in found if it), None)
+        if at >= len(words):
+            return None if letters[at:] == ["B", ".."] else f"{letter} is missing"
+        wrong = fault_of_word(letter, words[at])
+        if wrong:
+            return wrong
+    extra = words[len(letters) :]
+    return f"'{extra[0]}' is too much" if extra else None
+
+
+def fault_of_word(letter: str, word: str) -> Optional[str]:
+    if letter == "L":
+        known = ", ".join(sorted(LINE_DEVICES))
+        return None if word in LINE_DEVICES else f"there is no device '{word}'; L is {known}"
+    if letter == "2":
+        return None if word == "2" else f"'{word}' is no version that a line leads to"
+    return NUMBERS[letter].fault(letter, word)
+
+
+def forms_of_searches(word: str) -> list[str]:
+    """The lines of searches that begin with this word."""
+    return [it.form for it in sessions.SEARCHES if it.form.split()[0] == word]
+
+
+def explanation(line: str, reply: str, version: int) -> str:
+    """Why this line got this refusal."""
+    number, control = reply.split()[1], CONTROL.search(line)
+    if number != "10":
+        return MEANINGS.get(number, "")
+    if control:
+        return f"the line has a control character, {visible(control[0])}"
+    word, *words = words_of(line)
+    if word == "fades":
+        return f"the form is: fades N EDIT, and EDIT is a line of {', '.join(FADING)}"
+    if word in LISTS:
+        return f"the form is: {word}"
+    if word in SEARCHES and (word not in FORMS or len(words) > 1):
+        more = f"; a CONDITION is {sessions.CONDITIONS}" if "where" in words else ""
+        return f"the forms are: {'; '.join(forms_of_searches(word))}{more}"
+    if word not in FORMS:
+        return f"there is no line '{word}'; help lists the topics"
+    form = form_of(word, version)
+    wrong = fault_of_words(form.split()[1:], words) or "it has another form"
+    if word in FORMS_OF_EIGHT_DRIVES:
+        drives = "one drive" if version == 1 else "eight drives"
+        wrong += f" (version {version} has {drives})"
+    return f"{form}: {wrong}"

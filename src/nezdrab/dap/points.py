@@ -1,0 +1,149 @@
+"""Breakpoints of an editor, as breakpoints of explore: `breakpoints` in the console lists them."""
+import os
+import re
+from dataclasses import dataclass, field
+from typing import Iterator
+
+from ..analysis.breaking import condition_sought
+from ..analysis.breakpoints import Breakpoint
+from ..analysis.commands import COMMANDS, Explorer
+from ..core.errors import ExploreError
+from ..core.hardware import INTERRUPTS
+from ..core.replies import SPACES
+from .conditional import ConditionalTurn, ConditionalWrite
+from .fields import Fields
+from .sources import Place, Sources, source
+from .wire import Object
+
+LINES, FUNCTIONS, INSTRUCTIONS = "breakpoint", "function breakpoint", "instruction breakpoint"
+DATA, VECTORS = "data breakpoint", "exception"  # groups are named by the reasons of a stop
+TRAPS = {
+    0o4: "odd address, no memory, stack limit",
+    0o10: "reserved instruction",
+    0o14: "BPT and T bit",
+    0o20: "IOT",
+    0o30: "EMT",
+    0o34: "TRAP",
+    0o250: "memory management",
+}
+ACCESSES = {"write": ("watch",), "read": ("rwatch",), "readWrite": ("watch", "rwatch")}
+
+
+def filters() -> Iterator[Object]:
+    """What an editor offers as exceptions: interrupts and traps by their vectors."""
+    for kind, vectors in (("vector", INTERRUPTS), ("trap", TRAPS)):
+        for vector, name in vectors.items():
+            title = "interrupt" if kind == "vector" else "trap"
+            yield {
+                "filter": f"{kind} {vector:o}",
+                "label": f"{title} {vector:03o}: {name}",
+                "supportsCondition": True,
+                "conditionDescription": "what holds before the turn, such as R0 = 5 and user",
+            }
+
+
+@dataclass
+class Points:
+    """Which breakpoints are of which group, and of which breakpoint of the editor each is one: a
+    line may have several addresses. The editor's have the number of their first one."""
+
+    explorer: Explorer
+    sources: Sources
+    groups: dict[int, str] = field(default_factory=dict)
+    editors: dict[int, int] = field(default_factory=dict)
+    paths: dict[int, str] = field(default_factory=dict)
+
+    def clear(self, group: str, path: str = "") -> None:
+        """Takes away those of a group; of lines those of one file."""
+        points, key = self.explorer.breakpoints.points, os.path.realpath(path)
+        gone = {it for it, of in self.groups.items() if of == group and self.paths[it] == key}
+        points[:] = [it for it in points if it.number not in gone]
+
+    def added(self, line: str, group: str, path: str = "") -> Breakpoint:
+        """A new one, by a line of explore that sets one."""
+        word, _, rest = line.partition(" ")
+        list(COMMANDS[word].lines(self.explorer, rest))
+        point = self.explorer.breakpoints.points[-1]
+        self.groups[point.number], self.paths[point.number] = group, os.path.realpath(path)
+        self.editors[point.number] = point.number
+        return point
+
+    def at(self, place: Place, condition: str, group: str, path: str = "") -> Breakpoint:
+        mode = f"{place.mode.value} " if place.mode in SPACES and place.mode else ""
+        text = f" if {condition}" if condition else ""
+        return self.added(f"break {mode}{place.address:o}{text}", group, path)
+
+    def replace(self, point: Breakpoint) -> None:
+        """Puts this one in the place of the last."""
+        self.explorer.breakpoints.points[-1] = point
+
+    # What the requests set. Each sets one, and returns what the editor gets to know of it.
+
+    def of_line(self, path: str, fields: Fields, to_machine: int) -> Object:
+        """At the line that the editor has, or at the next one with words."""
+        asked = fields.number("line") + to_machine
+        line, places = self.sources.from_line(path, asked)
+        if not places:
+            raise ExploreError("no listing has words at this line or behind it")
+        condition = fields.text("condition", "")
+        points = [self.at(it, condition, LINES, path) for it in places]
+        self.editors.update((it.number, points[0].number) for it in points)
+        return {"id": points[0].number, "line": line - to_machine, "source": source(path)}
+
+    def of_function(self, fields: Fields) -> Object:
+        """A name is of the mode that alone has it; `user NAME` and `kernel NAME` name one."""
+        name, condition = fields.text("name").strip(), fields.text("condition", "")
+        numbers = self.explorer.symbols.numbers
+        modes = [it.value for it, names in numbers.items() if name in names]
+        mode = f"{modes[0]} " if len(modes) == 1 else ""
+        text = f" if {condition}" if condition else ""
+        return {"id": self.added(f"break {mode}{name}{text}", FUNCTIONS).number}
+
+    def of_instruction(self, fields: Fields, place: Place) -> Object:
+        return {"id": self.at(place, fields.text("condition", ""), INSTRUCTIONS).number}
+
+    def of_data(self, fields: Fields) -> Object:
+        """A write or a read of a word of core, at the address in `dataId`. Of both explore has two
+        breakpoints, and the editor one."""
+        address = re.fullmatch(r"core ([0-7]{1,6})", fields.text("dataId"))
+        if address is None:
+            raise ExploreError(f"'{fields.text('dataId')}' is no dataId of dataBreakpointInfo")
+        access, condition = fields.text("accessType", "write"), fields.text("condition", "")
+        if access not in ACCESSES:
+            raise ExploreError(f"'{access}' is no accessType: {', '.join(ACCESSES)}")
+        if access != "write":
+            if condition:
+                raise ExploreError("a data breakpoint of reads takes no condition here")
+            points = [self.added(f"{it} {address[1]}", DATA) for it in ACCESSES[access]]
+            self.editors.update((it.number, points[0].number) for it in points)
+            return {"id": points[0].number}
+        sought = condition_sought(self.explorer, [condition]) if condition else ""
+        point = self.added(f"watch {address[1]}", DATA)
+        if sought:
+            text = f"{point.text} if {condition}"
+            self.replace(
+                ConditionalWrite(point.number, text, "", point.address, condition=sought)
+            )
+        return {"id": point.number}
+
+    def of_vector(self, name: str, condition: str = "") -> Object:
+        if name not in {it["filter"] for it in filters()}:
+            raise ExploreError(f"there is no filter '{name}'")
+        sought = condition_sought(self.explorer, [condition]) if condition else ""
+        point = self.added(f"catch {name}", VECTORS)
+        if sought:
+            text = f"{point.text} if {condition}"
+            self.replace(
+                ConditionalTurn(point.number, text, point.sought, condition=sought)
+            )
+        return {"id": point.number}
+
+    # What a stop says
+
+    def group(self, point: Breakpoint) -> str:
+        """The console's own are as those of lines."""
+        return self.groups.get(point.number, LINES)
+
+    def editors_numbers(self, points: list[Breakpoint]) -> list[int]:
+        return list(dict.fromkeys(self.editors.get(it.number, it.number) for it in points))
+

@@ -1,2 +1,0 @@
-"""explore: a prompt over the session language, with commands that people know from debuggers.
-The session language and its replies: docs/LANGUAGE.md. `./explore --help` lists the options."""

@@ -1,0 +1,60 @@
+"""Core and drives as images, `core FILE at N`, `disk FILE at N`; and `core A INSTRUCTION`."""
+import struct
+from pathlib import Path
+from typing import Iterator
+
+from ..analysis.assembler import LABEL_OR_NAME
+from ..analysis.commands import Arguments, Explorer, command
+from ..core.files import OUTPUT
+from ..export.simh_state import core_words, drive_image
+from .patching import patch
+
+
+NO_FILE = r"(?!.*\sat\s+\S+$)"  # before an instruction: a FILE may lack its quotes
+
+
+def written(path: Path, data: bytes, what: str) -> Iterator[str]:
+    OUTPUT.write(path, data)
+    yield f"{what} in {path}: {len(data)} bytes"
+
+
+@command(
+    "core FILE at N  or  core A INSTRUCTION",
+    rf"(<file:file> at <turn:decimal>|<address:address> {NO_FILE}"
+    rf"(?P<instruction>{LABEL_OR_NAME}.*))",
+    "core before turn N, as an image; an instruction, as patches",
+)
+def core(explorer: Explorer, arguments: Arguments) -> Iterator[str]:
+    """Writes core before turn N as an image, which `--core FILE` reads: words from address 0 on,
+    the low byte first. A file that was there before is overwritten by core! FILE alone.
+    With an INSTRUCTION such as MOV #5,R0 its words become those of core from address A on as of
+    power-up, one patch each. It has the syntax of MACRO-11: numbers are octal, or decimal with a
+    point at their end; 'c and "ab are characters; a symbol or . (A itself) may have numbers after +
+    and -. A label before it is A too: 1$: SOB R0,1$. Condition codes that are cleared or set
+    together have a space between them: CLV CLC. BHIS is BCC, BLO is BCS, %5 is R5, CALL is JSR PC
+    and RETURN is RTS PC.
+    Addresses count from A modulo 200000, as in `list A C`: pages that move A aren't looked at.
+    The disassembler must show the words as this instruction, or nothing is changed, and what is
+    shown is its text. `undo` takes the patches back as one."""
+    if arguments.optional("instruction"):
+        return patch(explorer, arguments.octal("address"), arguments.text("instruction"))
+    path, turn = Path(arguments.text("file")), arguments.decimal("turn")
+    OUTPUT.target(path)
+    words = core_words(explorer.machine, turn)
+    return written(path, struct.pack(f"<{len(words)}H", *words), f"core before turn {turn} is")
+
+
+@command(
+    "disk [D] FILE at N",
+    r"((?P<drive>[0-7]) )?<file:file> at <turn:decimal>",
+    "a drive before turn N, as an image",
+)
+def disk(explorer: Explorer, arguments: Arguments) -> Iterator[str]:
+    """Writes the drive, or in version 2 drive D, as it is before turn N as an RK05 image, which
+    `--disk FILE` and SIMH's `attach` read. Without D it is drive 0. A file that was there before is
+    overwritten by disk! FILE alone."""
+    path, turn = Path(arguments.text("file")), arguments.decimal("turn")
+    drive = arguments.octal("drive")
+    OUTPUT.target(path)
+    image = drive_image(explorer.machine, turn, drive)
+    return written(path, image, f"drive {drive} before turn {turn} is")
