@@ -86,7 +86,7 @@ if not TYPE_CHECKING:
 
     def __getattr__(name):
         if name == "__version__":  # the release, by its day
-            return importlib.import_module(".core.options", __name__).release()
+            return importlib.import_module(".core.programs", __name__).release()
         if name in MODULES:
             return importlib.import_module(f".core.{name}", __name__)
         if name not in PLACES:

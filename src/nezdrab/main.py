@@ -6,16 +6,16 @@ from dataclasses import replace
 from pathlib import Path
 from typing import Iterator, Optional
 
-from .analysis.commands import Explorer, Step
 from .analysis.disassembly import Disassembler
+from .analysis.explorer import Explorer, Step
 from .core.engine import Machine, Start, existing_program, is_refused
 from .core.errors import ExploreError
 from .core.in_words import counted
 from .core.interrupts import INTERRUPTS
-from .core.options import FILES, Options, Parser, ShowVersion, add_options, check_options
-from .core.options import check_session, option_lines, options_of, words_of_options
+from .core.options import FILES, Options, check_session, option_lines, words_of_options
 from .core.programs import found_program
 from .core.session_file import refused_lines
+from .shell.command_line import Parser, ShowVersion, add_options, check_options, options_of
 from .shell.journal import NO_SESSION, OF_SESSION, Contents, Journal, in_use, newest, state_folder
 from .shell.journal import there_already, told
 from .shell.output import Unwritable, complain, fault_in_words, flush, leave_streams

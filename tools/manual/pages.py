@@ -4,8 +4,8 @@ import textwrap
 from typing import Iterable, Iterator, Sequence
 
 import sessions
-from nezdrab.analysis.commands import COMMANDS
-from nezdrab.core.options import release
+from nezdrab.core.programs import release
+from nezdrab.shell.commands import COMMANDS
 from nezdrab.shell.prompt import NUMBERS, OWN_HELP
 
 from .tables import Option, Program

@@ -5,7 +5,8 @@ from ..core.engine import MOST_TURNS_OF_A_TRAIL
 from ..core.errors import ExploreError
 from ..core.in_words import counted
 from ..core.replies import BusCycle, DiskFunction, TurnAccesses
-from .commands import Arguments, Explorer, command
+from .command import Arguments, command
+from .explorer import Explorer
 from .listing import HEADING, seen
 from .operand_values import name_of
 from .transfers import DoneFunction

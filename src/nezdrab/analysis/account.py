@@ -4,7 +4,7 @@ from dataclasses import dataclass, field
 from typing import Iterable, Iterator, Sequence
 
 from .cells import CODES, DRIVES, byte_of_drive, is_core, is_of_drive, is_register, name_of
-from .commands import Explorer
+from .explorer import Explorer
 from .listing import turns_in_words
 from .origins import MOST_LOOKS, MOST_TURNS_BACK, Kind
 from .steps import Source, Step, Steps

@@ -8,7 +8,8 @@ from ..core.in_words import span
 from ..core.replies import Mode, WordRead, turns_of
 from .breakpoints import Breakpoint, Reached
 from .calls import turns_ahead
-from .commands import Arguments, Explorer, command
+from .command import Arguments, command
+from .explorer import Explorer
 from .listing import seen
 from .search import word_of
 

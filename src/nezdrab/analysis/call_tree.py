@@ -6,8 +6,8 @@ from ..core.errors import ExploreError
 from ..core.replies import INTERRUPT, MODES, Mode
 from .batches import PLACE, STATE, STATUS, batches_of
 from .call_steps import Known, Step, steps_of
-from .commands import Explorer
 from .counting import Place
+from .explorer import Explorer
 from .levels import NEAR_BYTES, Stacks
 from .routines import Label, Labels
 

@@ -4,7 +4,8 @@ from typing import Iterator
 from ..core.engine import LAST_TURN, Machine
 from ..core.errors import ExploreError
 from ..core.in_words import span
-from .commands import Arguments, Explorer, command, turns_between
+from .command import Arguments, command, turns_between
+from .explorer import Explorer
 from .levels import CHECKED_TURNS, MOST_WORDS_OF_A_STACK, Call, Level, Return, Stacks, call_in
 from .levels import loads_pointer, pointer
 from .stepping import shown

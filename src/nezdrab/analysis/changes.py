@@ -5,8 +5,9 @@ from typing import Iterator, Sequence, Union
 
 from ..core.engine import LAST_TURN
 from ..core.in_words import counted, span
-from .commands import Arguments, Explorer, command, searched_range
+from .command import Arguments, command, searched_range
 from .disk_words import DiskWord, functions_in_words
+from .explorer import Explorer
 from .listing import turns_in_words
 from .search import WORD_OF_DISK, disk_word_of
 

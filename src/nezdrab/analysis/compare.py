@@ -7,8 +7,9 @@ from typing import Iterator, Optional
 
 from ..core.engine import Machine
 from ..core.in_words import span
-from .commands import Arguments, Explorer, command, turn_range
+from .command import Arguments, command, turn_range
 from .crew import Progress
+from .explorer import Explorer
 from .fades import fade_of, turns_to_ask
 
 LOOKED_AT_SINGLY = 512

@@ -4,8 +4,9 @@ from typing import Iterator, Sequence
 from ..core.engine import SHORT_SENT_AHEAD, Machine
 from ..core.in_words import counted
 from ..core.replies import LastWrite
-from ..export.simh_state import core_words, drive_image
-from .commands import Arguments, Explorer, command
+from .command import Arguments, command
+from .explorer import Explorer
+from .memory_images import core_words, drive_image
 
 MOST_SHOWN, UNLIKE = 256, 4_096
 

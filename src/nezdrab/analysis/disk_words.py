@@ -6,7 +6,8 @@ from ..core.engine import Machine
 from ..core.hardware import SECTOR_WORDS
 from ..core.in_words import counted
 from ..core.replies import Devices, DiskFunction
-from .commands import Explorer, check_drive
+from .command import check_drive
+from .explorer import Explorer
 from .finder import parts_of
 from .listing import turns_in_words
 from .transfers import functions_done

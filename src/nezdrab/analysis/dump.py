@@ -9,7 +9,8 @@ from ..core.hardware import DRIVE_WORDS
 from ..core.language import is_decimal
 from ..core.options import UNIT_BYTES
 from ..core.replies import Mode, words_of
-from .commands import Arguments, Explorer, command
+from .command import Arguments, command
+from .explorer import Explorer
 from .listing import Listed
 
 WORDS_OF_A_LINE, MOST_DUMPED, VIRTUAL_END = 8, 4_096, 0o200000

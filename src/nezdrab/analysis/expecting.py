@@ -5,7 +5,8 @@ from ..core.engine import LAST_TURN
 from ..core.errors import ExploreError
 from ..core.in_words import span
 from ..core.visible import visible_bytes
-from .commands import END_OF_RUN, Arguments, Explorer, command
+from .command import END_OF_RUN, Arguments, command
+from .explorer import Explorer
 from .script import typed_bytes
 
 EXPECTED_TURNS = 100_000_000

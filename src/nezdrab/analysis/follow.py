@@ -8,7 +8,8 @@ from ..core.in_words import counted
 from ..core.interrupts import INTERRUPTS
 from ..core.past import Event
 from .cells import C, N, OUTPUTS, TPB, V, Z, byte_of_drive, is_core, is_of_drive, name_of, some_of
-from .commands import Arguments, Explorer, command
+from .command import Arguments, command
+from .explorer import Explorer
 from .labels import Brought, Carried, Labels, Moved, events_with_data
 from .listing import turns_in_words
 from .operands import Flow, How

@@ -7,8 +7,9 @@ from ..core.engine import MOST_WORDS, SHORT_SENT_AHEAD, Machine
 from ..core.errors import ExploreError
 from ..core.replies import INSTRUCTION, INTERRUPT, LastWrite, Mode, Registers, Turn, turns_of
 from ..core.replies import words_of
-from .commands import Arguments, Explorer, command
+from .command import Arguments, command
 from .disassembly import Instruction
+from .explorer import Explorer
 
 INSTRUCTION_WORDS, UNIT_BYTES = 3, 0o20000
 SHOWN_AT_ONCE, VIRTUAL, PHYSICAL, IO_PAGE = 16, 0o200000, 0o1000000, 0o760000

@@ -8,7 +8,8 @@ from ..core.in_words import counted, span
 from ..core.interrupts import INTERRUPTS
 from ..core.replies import INSTRUCTION, MODES, Mode
 from .cells import is_core, is_of_drive, is_register
-from .commands import Arguments, Explorer, command, turns_between
+from .command import Arguments, command, turns_between
+from .explorer import Explorer
 from .labels import RESULTS, Labels
 from .listing import turns_in_words
 from .operands import Flow

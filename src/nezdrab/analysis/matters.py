@@ -13,8 +13,9 @@ from ..core.interrupts import INTERRUPTS
 from ..core.language import comma_fault, explanation
 from ..core.past import Event
 from ..core.sessions import words_of
-from .commands import Arguments, Explorer, command
+from .command import Arguments, command
 from .crew import Progress, each_of
+from .explorer import Explorer
 from .matters_table import Row, table
 from .moves import Change, Moves, Task, Trial, Tried, Way, common, in_one_line
 from .quotes import files_of, quote_fault

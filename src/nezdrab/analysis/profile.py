@@ -11,11 +11,12 @@ from ..core.errors import ExploreError
 from ..core.in_words import counted, span
 from ..core.replies import INSTRUCTION, Mode, Registers, turns_of, words_of
 from ..core.symbols import FARTHEST
-from .commands import Arguments, Explorer, command
+from .command import Arguments, command
 from .counting import MODES, Area, Place, areas_with_turns, counts_at, windows_of
 from .crew import Progress
 from .dump import in_mode, is_read
-from .levels import JSR, WITH_NUMBER, WITHOUT, call_in
+from .explorer import Explorer
+from .levels import JSR, WITHOUT, WITH_NUMBER, call_in
 
 EXACT_TURNS = 1_000_000  # that are counted if `whole` isn't said
 SAMPLES = 10_000

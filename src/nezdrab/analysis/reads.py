@@ -5,8 +5,9 @@ from ..core.errors import ExploreError
 from ..core.in_words import counted, span
 from ..core.interrupts import INTERRUPTS
 from ..core.replies import WordRead
-from .commands import Arguments, Explorer, command, searched_range
+from .command import Arguments, command, searched_range
 from .disk_words import functions_in_words
+from .explorer import Explorer
 from .finder import Finder
 from .listing import turns_in_words
 

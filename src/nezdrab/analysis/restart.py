@@ -7,7 +7,7 @@ from ..core.engine import Machine, Start, is_refused
 from ..core.errors import ExploreError
 from ..core.interrupts import INTERRUPTS
 from ..core.options import Options, faults_of, option_lines, options_of_words, words_of_options
-from .commands import Explorer
+from .explorer import Explorer
 
 
 def options_of(start: Start) -> Options:

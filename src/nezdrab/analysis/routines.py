@@ -4,8 +4,8 @@ from dataclasses import dataclass
 from typing import Optional
 
 from ..core.replies import MODES as MODE_OF, Mode
-from .commands import Explorer
 from .counting import MODES, Place
+from .explorer import Explorer
 from .profile import Profile, begin_of, begins_of, counted_profile, name_of
 
 SEPARATING = re.compile(r"[\s;,]|[^ -~]")  # what separates names in files, or isn't ASCII

@@ -2,7 +2,8 @@
 import re
 from typing import Iterator
 
-from .commands import Arguments, Explorer, command
+from .command import Arguments, command
+from .explorer import Explorer
 
 BACKSPACE, TAB, RETURN = b"\b", b"\t", b"\r"
 MOVES = re.compile(rb"([\b\t\r])")

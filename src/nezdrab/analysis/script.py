@@ -14,7 +14,8 @@ from ..core.options import option_lines, options_of_words
 from ..core.past import MOST_EVENTS
 from ..core.replies import Devices
 from ..core.sessions import words_of
-from .commands import Arguments, Explorer, command, turns_between
+from .command import Arguments, command, turns_between
+from .explorer import Explorer
 
 EVENTS_AT_ONCE = 1000
 FIRST_STEPS, LOOKS = 64, 16

@@ -5,8 +5,9 @@ from ..core.engine import LAST_TURN
 from ..core.errors import ExploreError
 from ..core.in_words import span
 from ..core.replies import LastWrite
-from .commands import Arguments, Explorer, command, range_ahead, searched_range
+from .command import Arguments, command, range_ahead, searched_range
 from .disk_words import DiskWord, change_lines, functions_in_words, last_change
+from .explorer import Explorer
 from .listing import turn_in_words
 from .script import typed_bytes
 

@@ -4,7 +4,8 @@ from typing import Iterator
 from ..core.engine import LAST_TURN
 from ..core.errors import ExploreError
 from ..core.replies import INSTRUCTION
-from .commands import END_OF_RUN, Arguments, Explorer, Shown, command
+from .command import END_OF_RUN, Arguments, command
+from .explorer import Explorer, Shown
 from .listing import HEADING, SHOWN_AT_ONCE, SeenTurn, seen
 from .operand_values import operands_of
 

@@ -3,14 +3,16 @@ from typing import Iterator
 
 from ..core.engine import LAST_TURN
 from ..core.errors import ExploreError
-from .commands import COMMANDS, Arguments, Explorer, command
+from .command import Arguments, command
+from .explorer import Explorer
+from .seeing import show
 
 
 def shown(explorer: Explorer, turn: int) -> Iterator[str]:
     if not 0 <= turn <= LAST_TURN:
         where = "before turn 0" if turn < 0 else f"after turn {LAST_TURN}"
         raise ExploreError(f"that is {where}: the current turn is {explorer.turn}")
-    return COMMANDS["show"].lines(explorer, str(turn))
+    return show(explorer, Arguments({"turn": str(turn), "operands": None}))
 
 
 @command("step [K]", r"<count:decimal>?", "shows the turn after the current one, or the K-th")

@@ -7,7 +7,7 @@ from pathlib import Path
 from typing import Container, Iterator, Optional, Sequence
 
 from ..core import sessions
-from ..core.asked import turns_of_question
+from ..core.asked import stride_before
 from ..core.engine import Machine, is_refused
 from ..core.errors import ExploreError
 from ..core.in_words import counted, some_are
@@ -15,8 +15,9 @@ from ..core.interrupts import INTERRUPTS
 from ..core.language import MOST_DIGITS, SEARCHES, comma_fault, explanation, is_decimal, is_edit
 from ..core.past import Event
 from ..core.sessions import words_of
-from .commands import Arguments, Explorer, check_turn, command
+from .command import Arguments, check_turn, command
 from .crew import Progress, each_of
+from .explorer import Explorer
 from .quotes import files_of, quote_fault
 from .result_files import ResultFile, job_lines, kept_in
 from .script import past_lines
@@ -30,7 +31,6 @@ SWEEP = re.compile(
 )
 QUESTIONS = SEARCHES | {it.decode() for it in sessions.QUESTIONS}
 JOBS = 64
-LEAST_STRIDE, KEPT_STATES = 64, 250  # the program keeps 256, and then doubles the stride
 
 
 @dataclass
@@ -105,12 +105,8 @@ class Sweep:
         return edited, reply
 
     def stride(self) -> Optional[int]:
-        """A stride with which a state is kept shortly before the first turn, so that each further
-        turn of a sweep replays little more than what lies between it and the question."""
-        asked = turns_of_question(self.question)
-        first = self.turns[0]
-        least = max(LEAST_STRIDE, asked[1] // KEPT_STATES if asked else first)
-        return first // (first // least) if first >= least else None
+        """The stride of its twins."""
+        return stride_before(self.turns[0], self.question)
 
     def heading(self, machine: Machine) -> str:
         """What results are of: the event, the question and the past. The turns may be others."""

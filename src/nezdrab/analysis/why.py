@@ -11,8 +11,9 @@ from ..core.in_words import counted
 from .account import MOST_ENDS, Account, ranges
 from .cells import ALL_CODES, NAMES, REST, TPB, byte_of_drive, drive_cell, is_of_drive, name_of
 from .cells import register_cells, word_cells
-from .commands import Arguments, Explorer, command
+from .command import Arguments, command
 from .disk_words import DiskWord
+from .explorer import Explorer
 from .labels import events_with_data
 from .operands import pointer_of
 from .origins import Graph, Kind, Origin, Origins

@@ -7,8 +7,8 @@ from ..core.errors import ExploreError
 from ..core.interrupts import typed_line
 from ..core.language import MOST_DIGITS, is_decimal
 from .at_work import AtWork
-from .commands import Explorer
 from .crew import processors
+from .explorer import Explorer
 from .quotes import WORD, file_of
 
 MOST_UNASKED, MOST_HANDS = 100_000, 256

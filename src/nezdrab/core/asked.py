@@ -12,6 +12,7 @@ SEARCHES = [it for it in sessions.SEARCHES if " N" in it.form and "EDIT" not in 
 QUESTIONS = sessions.QUESTIONS | {sessions.command_of(it) for it in SEARCHES}
 NAMES = frozenset(it.decode() for it in QUESTIONS)
 MOST_DIGITS = 10
+LEAST_STRIDE, KEPT_STATES = 64, 250  # the program keeps 256, and then doubles the stride
 
 
 def turns_of_question(line: str) -> Optional[tuple[int, int]]:
@@ -29,6 +30,14 @@ def turns_of_question(line: str) -> Optional[tuple[int, int]]:
         if words[0] in ("latest", "counts"):
             return turn, number
     return turn, turn
+
+
+def stride_before(first: int, question: str) -> Optional[int]:
+    """A stride with which a state is kept shortly before this turn, so that an edit from there on
+    and a question replay little more than what lies between them. None if any stride has that."""
+    asked = turns_of_question(question)
+    least = max(LEAST_STRIDE, asked[1] // KEPT_STATES if asked else first)
+    return first // (first // least) if first >= least else None
 
 
 @dataclass

@@ -5,9 +5,9 @@ from dataclasses import dataclass, field, replace
 from pathlib import Path
 from typing import Iterator, Optional, Sequence, TypeVar
 
-from ..shell.journal import Journal
 from .asked import Asked
 from .children import ProgramEnded
+from .edit_file import EditFile
 from .errors import ExploreError
 from .interrupts import INTERRUPTS
 from .language import explanation, is_edit
@@ -94,7 +94,7 @@ class Machine:
     journal: list[str] = field(default_factory=list)
     replies: list[str] = field(default_factory=list)
     is_closed: bool = False
-    file: Optional[Journal] = None
+    file: Optional[EditFile] = None
     asked: Asked = field(default_factory=Asked)
     seconds: Optional[float] = None  # that the replies to lines sent together may take
 

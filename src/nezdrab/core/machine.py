@@ -158,7 +158,7 @@ class Machine:
         modes, kernel and user without any; returns how many there are. Files are those of explore's
         command `symbols`. Those that are relocatable count from `base`. A NezdrabError if the file
         can't be read, or has no name."""
-        from ..shell.load import names_of  # which reads all of explore
+        from .names import names_of  # which reads all of explore
 
         found = [it.moved(base) for it in names_of(Path(path)).symbols]
         self.symbols.add(found, [Mode(it) for it in modes] or [Mode.KERNEL, Mode.USER])

@@ -1,20 +1,16 @@
 """The options of the program: those that are given, and those that stand in a session. There they
 are comment lines `#! OPTIONS`, which the program passes over."""
-import argparse
 import os
 import re
 import shlex
 import stat
 from dataclasses import dataclass
 from pathlib import Path
-from typing import Any, Iterable, Iterator, NoReturn, Optional
+from typing import Iterable, Iterator, Optional
 
-from ..shell.output import put
 from .errors import ExploreError
 from .hardware import DRIVE_WORDS
 from .in_words import counted
-from .programs import clone
-from .visible import visible
 
 UNIT_BYTES, MOST_UNITS = 0o20000, 31  # of core
 RK05_BYTES, TAPE_BYTES = 2 * DRIVE_WORDS, 1_048_576
@@ -56,69 +52,6 @@ LONGEST_PART = 190
 Options = dict[str, str]
 
 
-class Parser(argparse.ArgumentParser):
-    """A parser whose help is an error of explore if it can't be written, and which shows a wrong
-    argument as text."""
-
-    def print_help(self, file: Any = None) -> None:
-        put(self.format_help().rstrip("\n"))
-
-    def error(self, message: str) -> NoReturn:
-        super().error(visible(message))
-
-
-def release() -> str:
-    """The newest release, by its day, which the file VERSION has; of a package that was installed
-    the one that it was made of."""
-    root = clone()
-    if root is None:
-        from importlib import metadata  # which takes a while to read
-
-        year, *rest = metadata.version("nezdrab").split(".")
-        return "-".join([year, *(it.zfill(2) for it in rest)])
-    path = root / "VERSION"
-    try:
-        found = path.read_text(encoding="ascii").strip()
-    except (OSError, ValueError) as error:
-        raise ExploreError(f"{path} can't be read: {error}") from error
-    if not found:
-        raise ExploreError(f"{path} names no release")
-    return found
-
-
-def version_of(name: str) -> str:
-    """What --version shows of a program, which may be newer than the release that it names."""
-    return f"{name} of Nezdrab, release {release()} or later"
-
-
-class ShowVersion(argparse.Action):
-    """The option --version, which ends explore as --help does."""
-
-    def __init__(self, option_strings: list[str], dest: str, **more: Any):
-        super().__init__(option_strings, dest, nargs=0, **more)
-
-    def __call__(self, parser: argparse.ArgumentParser, *ignored: Any) -> None:
-        put(version_of(parser.prog))
-        parser.exit()
-
-
-def add_options(parser: argparse.ArgumentParser) -> None:
-    """Has a parser take the options of the program."""
-    of_program = parser.add_argument_group("options of pdp11 (./pdp11 --help)")
-    for name in FILES:
-        of_program.add_argument(f"--{name}", metavar="FILE")
-    for name, number in NUMBERS.items():
-        of_program.add_argument(f"--{name}", metavar=number.letter)
-
-
-def options_of(found: argparse.Namespace, session: Optional[Path]) -> Options:
-    """The options of the program: those of the session, and those that are given."""
-    named = [(name, getattr(found, name)) for name in (*FILES, *NUMBERS)]
-    words = [word for name, value in named if value is not None for word in (f"--{name}", value)]
-    given = options_of_words(words, "explore", Path.cwd())
-    return {**(options_of_session(session) if session else {}), **given}
-
-
 def fault_of_file(name: str, path: Path, units: int) -> str:
     """What is wrong with the file of an option, if anything is. Of a pipe nothing is known."""
     try:
@@ -152,13 +85,6 @@ def faults_of(options: Options) -> dict[str, str]:
     """What is wrong with each option that the program would refuse."""
     faults = {name: fault_of_option(name, options) for name in options}
     return {name: f"--{name} {options[name]}: {it}" for name, it in faults.items() if it}
-
-
-def check_options(options: Options, found: argparse.Namespace, session: Optional[Path]) -> None:
-    """An error if the program would refuse an option, given or of the session."""
-    for name, wrong in faults_of(options).items():
-        where = "" if getattr(found, name) is not None else f"{session}: "
-        raise ExploreError(f"{where}{wrong}")
 
 
 def words_of_options(options: Options) -> list[str]:

@@ -19,6 +19,25 @@ def clone() -> Optional[Path]:
     return next((it for it in above if (it / "tools" / "program").is_file()), None)
 
 
+def release() -> str:
+    """The newest release, by its day, which the file VERSION has; of a package that was installed
+    the one that it was made of."""
+    root = clone()
+    if root is None:
+        from importlib import metadata  # which takes a while to read
+
+        year, *rest = metadata.version("nezdrab").split(".")
+        return "-".join([year, *(it.zfill(2) for it in rest)])
+    path = root / "VERSION"
+    try:
+        found = path.read_text(encoding="ascii").strip()
+    except (OSError, ValueError) as error:
+        raise ExploreError(f"{path} can't be read: {error}") from error
+    if not found:
+        raise ExploreError(f"{path} names no release")
+    return found
+
+
 def found_program(name: str) -> str:
     """The path of the program of this name: the one beside the package; in a clone the one that its
     sources give, which is built first if it must be; `nezdrab-NAME` on PATH; or the one beside the

@@ -10,7 +10,7 @@ from dataclasses import dataclass, field
 from itertools import chain, islice
 from typing import Callable, Iterable, Iterator, Optional, Sequence, SupportsIndex, TypeVar, Union
 
-from ..analysis import sweep
+from .asked import stride_before
 from .engine import SHORT_SENT_AHEAD, Machine as Engine, Refused, is_refused
 from .errors import ExploreError
 from .language import explanation
@@ -76,8 +76,7 @@ class Sweep:
 
     def stride(self, turn: int) -> Optional[int]:
         """The stride of twins whose first turn is this one."""
-        first = range(turn, turn + 1)
-        return sweep.Sweep(self.event, self.moved, first, self.lines[0]).stride()
+        return stride_before(turn, self.lines[0])
 
     def twin(self, engine: Engine, stride: Optional[int] = None) -> Engine:
         twin = engine.twin(stride=stride)

@@ -3,7 +3,7 @@ from contextlib import suppress
 from dataclasses import dataclass, field
 from typing import Any, Callable, Optional
 
-from ..analysis.commands import Explorer
+from ..analysis.explorer import Explorer
 from ..core.errors import ExploreError
 from ..core.interrupts import INTERRUPTS
 from ..shell.output import Unwritable

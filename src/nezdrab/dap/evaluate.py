@@ -3,13 +3,14 @@ import re
 from dataclasses import dataclass
 from typing import Callable, Container, Iterable, Iterator, Optional
 
-from ..analysis.commands import COMMANDS, ENDS, Explorer
+from ..analysis.explorer import Explorer
 from ..analysis.levels import pointer
 from ..analysis.listing import UNIT_BYTES
 from ..core import sessions
 from ..core.errors import ExploreError, LineRefused
 from ..core.language import FORMS, LISTS, SEARCHES
 from ..core.replies import SPACES, Mode
+from ..shell.commands import COMMANDS, ENDS
 from ..shell.completion import HELP, completions
 from ..shell.display import check_only_shows, lines_at
 from ..shell.output import LINES

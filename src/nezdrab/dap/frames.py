@@ -2,7 +2,7 @@
 from dataclasses import dataclass, field
 from typing import Optional
 
-from ..analysis.commands import Explorer
+from ..analysis.explorer import Explorer
 from ..analysis.levels import Call, Level, Stacks
 from ..core.replies import Mode
 from .memory import reference

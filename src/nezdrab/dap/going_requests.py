@@ -1,7 +1,7 @@
 """Requests that go on and back, and to a turn."""
 import itertools
 
-from ..analysis.commands import SEARCHED_TURNS
+from ..analysis.command import SEARCHED_TURNS
 from ..core.engine import LAST_TURN
 from ..core.errors import ExploreError
 from . import running

@@ -6,14 +6,16 @@ from dataclasses import dataclass
 from pathlib import Path
 from typing import Iterator, Optional
 
-from ..analysis.commands import COMMANDS, Explorer, check_turn
+from ..analysis.command import check_turn
 from ..analysis.disassembly import Disassembler
+from ..analysis.explorer import Explorer
 from ..core.engine import LAST_TURN, Machine, Start, existing_program
 from ..core.errors import ExploreError
-from ..core.options import FILES, NUMBERS, check_options, check_session, option_lines, options_of
-from ..core.options import words_of_options
+from ..core.options import FILES, NUMBERS, check_session, option_lines, words_of_options
 from ..core.programs import found_program
 from ..core.session_file import refused_lines
+from ..shell.command_line import check_options, options_of
+from ..shell.commands import COMMANDS
 from ..shell.journal import OF_SESSION, Journal
 from ..shell.load import warnings_of
 from .fields import Fields

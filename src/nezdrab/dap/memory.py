@@ -5,7 +5,7 @@ import base64
 from dataclasses import dataclass
 from typing import Iterator, Optional
 
-from ..analysis.commands import Explorer
+from ..analysis.explorer import Explorer
 from ..analysis.listing import INSTRUCTION_WORDS, PHYSICAL, VIRTUAL, Listed, instruction_of
 from ..core.errors import ExploreError
 from ..core.replies import Mode

@@ -6,10 +6,11 @@ from typing import Iterator
 
 from ..analysis.breaking import condition_sought
 from ..analysis.breakpoints import Breakpoint
-from ..analysis.commands import COMMANDS, Explorer
+from ..analysis.explorer import Explorer
 from ..core.errors import ExploreError
 from ..core.hardware import INTERRUPTS
 from ..core.replies import SPACES
+from ..shell.commands import COMMANDS
 from .conditional import ConditionalTurn, ConditionalWrite
 from .fields import Fields
 from .sources import Place, Sources, source

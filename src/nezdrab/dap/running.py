@@ -6,7 +6,7 @@ from typing import Callable, Generator, Optional
 from ..analysis.breaking import reached_line
 from ..analysis.breakpoints import Breakpoint, Breakpoints
 from ..analysis.calls import doubt_lines, ended_levels
-from ..analysis.commands import Explorer
+from ..analysis.explorer import Explorer
 from ..analysis.finder import growing_parts
 from ..analysis.levels import Call, Return, Stacks, call_in
 from ..core.engine import LAST_TURN

@@ -8,8 +8,8 @@ from pathlib import Path
 
 from ..core.errors import ExploreError
 from ..core.interrupts import INTERRUPTS
-from ..core.options import Parser, ShowVersion
 from ..core.programs import by_another_python
+from ..shell.command_line import Parser, ShowVersion
 from ..shell.output import complain, put
 from .adapter import Adapter
 from .launch import Programs

@@ -2,7 +2,7 @@
 from dataclasses import dataclass
 from typing import Callable, Iterator, Optional
 
-from ..analysis.commands import Explorer
+from ..analysis.explorer import Explorer
 from ..analysis.levels import pointer
 from ..analysis.listing import VIRTUAL, Listed
 from ..analysis.screen import lines_of

@@ -4,8 +4,8 @@ from dataclasses import dataclass, field
 from typing import Iterator, Optional, Sequence
 
 from ..analysis.call_tree import MOST_LEVELS, CallTree, Node
-from ..analysis.commands import Explorer
 from ..analysis.counting import Place
+from ..analysis.explorer import Explorer
 from ..analysis.profile import counted_profile
 from ..analysis.routines import Label
 from ..core.in_words import counted, span

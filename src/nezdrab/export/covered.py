@@ -5,8 +5,9 @@ from pathlib import Path
 from typing import Iterator, Optional, Sequence
 
 from ..analysis.assembler import LABEL, is_mnemonic
-from ..analysis.commands import Arguments, Explorer, command, turns_between
+from ..analysis.command import Arguments, check_even, command, turns_between
 from ..analysis.counting import Place, counts_at
+from ..analysis.explorer import Explorer
 from ..analysis.listing import VIRTUAL
 from ..core.engine import Machine
 from ..core.errors import ExploreError
@@ -15,7 +16,6 @@ from ..core.in_words import counted, span
 from ..core.kinds import content
 from ..core.replies import Mode
 from ..core.symbol_files import SOURCE
-from ..shell.load import check_even
 
 NEVER, NO_CODE = "#####", "-"
 NAME = re.compile(r"[A-Za-z0-9.$_]+")

@@ -6,8 +6,9 @@ from pathlib import Path
 from typing import Callable, Iterable, Iterator, Sequence
 
 from ..analysis.call_tree import CallTree
-from ..analysis.commands import Arguments, Explorer, turns_between
+from ..analysis.command import Arguments, turns_between
 from ..analysis.counting import windows_of
+from ..analysis.explorer import Explorer
 from ..analysis.quotes import WORD, file_of
 from ..analysis.work_options import ask_to_begin
 from ..core.engine import LAST_TURN

@@ -3,7 +3,7 @@ from dataclasses import dataclass, field
 from pathlib import Path
 from typing import Iterator, Sequence
 
-from ..analysis.commands import Explorer
+from ..analysis.explorer import Explorer
 from ..analysis.routines import in_one_word
 from .covered import Coverage, Listing
 

@@ -3,7 +3,8 @@ import stat
 from pathlib import Path
 from typing import Iterator
 
-from ..analysis.commands import Arguments, Explorer, command
+from ..analysis.command import Arguments, command
+from ..analysis.explorer import Explorer
 from ..core.errors import ExploreError
 from ..core.files import OUTPUT, write_whole
 from .page_file import OLDER, is_older, page_with

@@ -4,7 +4,7 @@ from typing import Iterable, Iterator, Optional, Sequence
 
 from ..analysis.batches import KSP, PC, PLACE, PS, STATE, USP, Batch, batches_of
 from ..analysis.call_steps import turns_with
-from ..analysis.commands import Explorer
+from ..analysis.explorer import Explorer
 from ..analysis.finder import Finder
 from ..analysis.routines import Labels
 from ..core.engine import Machine

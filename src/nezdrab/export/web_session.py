@@ -3,7 +3,7 @@ a file, or the one that explore has now."""
 from pathlib import Path
 from typing import Iterable, Optional
 
-from ..analysis.commands import Explorer
+from ..analysis.explorer import Explorer
 from ..analysis.restart import options_of
 from ..analysis.script import past_lines
 from ..core import sessions

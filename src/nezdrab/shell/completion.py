@@ -2,12 +2,14 @@
 import os
 from typing import Iterable
 
-from ..analysis.commands import COMMANDS, ENDS, Command, Explorer
+from ..analysis.command import Command
+from ..analysis.explorer import Explorer
 from ..analysis.quotes import begun_word, in_quotes, is_plain
 from ..core import sessions
 from ..core.language import FORMS, LISTS, SEARCHES
 from ..core.replies import Mode
 from ..core.symbols import ADDRESSES, MODES, forms_of
+from .commands import COMMANDS, ENDS
 from .mapped import MAPPED_WORDS
 from .topics import LINES, TOPICS
 

@@ -5,7 +5,8 @@ from collections import deque
 from typing import Iterator, Optional
 
 from ..analysis.at_work import AtWork
-from ..analysis.commands import END_OF_RUN, Arguments, Explorer, Sitting, command
+from ..analysis.command import END_OF_RUN, Arguments, command
+from ..analysis.explorer import Explorer, Sitting
 from ..core.engine import LAST_TURN, Machine, is_refused
 from ..core.errors import ExploreError
 from ..core.in_words import counted

@@ -2,9 +2,11 @@
 import re
 from typing import Iterator
 
-from ..analysis.commands import COMMANDS, ENDS, Arguments, Explorer, command
+from ..analysis.command import Arguments, command
+from ..analysis.explorer import Explorer
 from ..core.errors import ExploreError
 from ..core.language import FORMS, LISTS, SEARCHES
+from .commands import COMMANDS, ENDS
 
 NAME = re.compile(r"[A-Za-z][A-Za-z0-9_.-]{0,63}")
 

@@ -2,11 +2,13 @@
 import re
 from typing import Iterator
 
-from ..analysis.commands import COMMANDS, Arguments, Explorer, command
+from ..analysis.command import Arguments, command
 from ..analysis.definitions import PLACE, TURN
+from ..analysis.explorer import Explorer
 from ..core import sessions
 from ..core.errors import ExploreError, LineRefused
 from ..core.language import FORMS, LISTS, SEARCHES, is_edit
+from .commands import COMMANDS
 from .topics import only_shows
 
 NONE_SET = "no line is displayed: display LINE adds one"

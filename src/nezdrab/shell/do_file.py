@@ -2,7 +2,8 @@
 from pathlib import Path
 from typing import Iterator
 
-from ..analysis.commands import Arguments, Explorer, command
+from ..analysis.command import Arguments, command
+from ..analysis.explorer import Explorer
 from ..core import sessions
 from ..core.errors import ExploreError, LineRefused
 from ..core.interrupts import INTERRUPTS

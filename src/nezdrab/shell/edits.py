@@ -1,7 +1,8 @@
 """Edits that are taken back: `undo`, `redo`, `drop from`."""
 from typing import Iterator
 
-from ..analysis.commands import Arguments, Explorer, Step, command
+from ..analysis.command import Arguments, command
+from ..analysis.explorer import Explorer, Step
 from ..analysis.restart import begin_as
 from ..core.errors import ExploreError
 from ..core.in_words import counted

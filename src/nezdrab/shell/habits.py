@@ -5,7 +5,7 @@ from functools import partial
 from typing import Callable, Optional
 
 from ..analysis.breaking import condition_in_words, condition_sought
-from ..analysis.commands import Explorer
+from ..analysis.explorer import Explorer
 from ..analysis.levels import pointer
 from ..core import sessions
 from ..core.errors import ExploreError

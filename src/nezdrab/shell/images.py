@@ -4,9 +4,10 @@ from pathlib import Path
 from typing import Iterator
 
 from ..analysis.assembler import LABEL_OR_NAME
-from ..analysis.commands import Arguments, Explorer, command
+from ..analysis.command import Arguments, command
+from ..analysis.explorer import Explorer
+from ..analysis.memory_images import core_words, drive_image
 from ..core.files import OUTPUT
-from ..export.simh_state import core_words, drive_image
 from .patching import patch
 
 

@@ -3,21 +3,22 @@ from dataclasses import dataclass, field
 from pathlib import Path
 from typing import Callable, Iterable, Iterator, Optional, Sequence
 
-from ..analysis.commands import Arguments, Explorer, command
+from ..analysis.command import Arguments, check_even, command
+from ..analysis.explorer import Explorer
 from ..analysis.restart import make
 from ..core.aout import begins_as_aout, program_of
 from ..core.engine import MOST_WORDS, Machine
 from ..core.errors import ExploreError
 from ..core.in_words import counted
 from ..core.kinds import TEXT, begins_as_tape, check_known, content, foreign_of, is_text
+from ..core.names import names_of
 from ..core.options import FILES, RK05_BYTES, UNIT_BYTES, Options
 from ..core.replies import Mode
-from ..core.symbol_files import Symbol, SymbolFile, symbol_file
+from ..core.symbol_files import Symbol
 from .absolute_tape import tape_of
 
 LAST_WORD = 0o177776
 BOTH_MODES = [Mode.KERNEL, Mode.USER]
-OF_PROGRAM = "an a.out"
 
 
 @dataclass(frozen=True)
@@ -132,12 +133,6 @@ def counted_patches(edits: Sequence[str]) -> str:
     return counted(count, "patch")
 
 
-def check_even(address: int) -> None:
-    """An error if words can't be moved to this address."""
-    if address % 2:
-        raise ExploreError(f"A is odd: {address:o}")
-
-
 def load_lines(explorer: Explorer, found: Loaded) -> Iterator[str]:
     """Loads it, and says what it was."""
     machine = explorer.machine
@@ -211,28 +206,6 @@ def warnings_of(options: Options) -> Iterator[str]:
             continue
         if found:
             yield f"--{name} {value}: this looks like {found}"
-
-
-def names_of(path: Path) -> SymbolFile:
-    """The names in a file, which has one at least."""
-    data = content(path)
-    check_known(path, data)
-    if begins_as_aout(data):
-        try:
-            program = program_of(data)
-            found = SymbolFile(OF_PROGRAM, program.symbols, 0, program.odd_in_words)
-        except ExploreError as error:
-            raise ExploreError(f"{path}: {error}") from None
-    else:
-        found = symbol_file(data.decode(errors="replace"))
-    if not found.symbols and found.kind == OF_PROGRAM:
-        raise ExploreError(f"{path} is {OF_PROGRAM} without symbols")
-    if not found.symbols:
-        raise ExploreError(
-            f"{path} has no symbol: no line is NAME OCTAL, OCTAL NAME, NAME=OCTAL or one of nm,"
-            " and it is no listing and no map"
-        )
-    return found
 
 
 SYMBOLS_PATTERN = r"<file:file>( at <address:octal>)?( (?P<mode>kernel|user))?"

@@ -2,7 +2,8 @@
 import re
 from typing import Optional
 
-from ..analysis.commands import Explorer, check_turn
+from ..analysis.command import check_turn
+from ..analysis.explorer import Explorer
 from ..core.errors import ExploreError
 from ..core.options import UNIT_BYTES
 from ..core.replies import Mode

@@ -3,7 +3,7 @@ import re
 from typing import Iterator
 
 from ..analysis.assembler import LABEL, LABEL_OR_NAME, Assembled, assembled, is_mnemonic
-from ..analysis.commands import Explorer
+from ..analysis.explorer import Explorer
 from ..analysis.listing import INSTRUCTION_WORDS, UNIT_BYTES, VIRTUAL, listed_line
 from ..analysis.restart import edit_whole
 from ..core.errors import ExploreError

@@ -7,7 +7,7 @@ from pathlib import Path
 from typing import Iterable, Iterator, Optional, Sequence
 
 from ..analysis.at_work import AtWork
-from ..analysis.commands import COMMANDS, ENDS, PROMPT, Explorer, Interpreter
+from ..analysis.explorer import PROMPT, Explorer, Interpreter
 from ..analysis.fades import MOST_TURNS
 from ..analysis.quotes import RULE
 from ..core import sessions
@@ -18,6 +18,7 @@ from ..core.in_words import counted
 from ..core.interrupts import INTERRUPTS, typed_line
 from ..core.language import FADING, FORMS, LISTS, SEARCHES, SUMMARIES, explanation, form_of
 from ..core.language import forms_of_searches, is_decimal, is_edit
+from .commands import COMMANDS, ENDS
 from .completion import HELP, completions
 from .defining import definition_line
 from .display import displays_after_move
@@ -26,7 +27,7 @@ from .journal import state_folder
 from .mapped import MAPPED_HELP, MAPPED_WORDS, in_core
 from .output import LINES, Unwritable, fault_in_words, flush, put
 from .pager import Pager, fit, paragraphs_of
-from .topics import LINES as LINES_OF, TOPICS, command_lines, commands_of, forms_in_lines, SESSION
+from .topics import LINES as LINES_OF, SESSION, TOPICS, command_lines, commands_of, forms_in_lines
 from .topics import language_lines, search_lines
 
 BLANKS = " \t"

@@ -6,7 +6,8 @@ from dataclasses import dataclass, field
 from pathlib import Path
 from typing import Callable, Iterator, Optional
 
-from ..analysis.commands import Arguments, Explorer, command
+from ..analysis.command import Arguments, command
+from ..analysis.explorer import Explorer
 from ..analysis.restart import make
 from ..core.errors import ExploreError
 from ..core.in_words import counted

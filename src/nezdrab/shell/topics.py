@@ -2,9 +2,9 @@
 from dataclasses import dataclass
 from typing import Iterable, Iterator
 
-from ..analysis.commands import COMMANDS
 from ..core import sessions
 from ..core.language import SUMMARIES, form_of
+from .commands import COMMANDS
 
 
 @dataclass(frozen=True)

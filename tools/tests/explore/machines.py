@@ -2,8 +2,8 @@
 from pathlib import Path
 from typing import Sequence
 
-from nezdrab.analysis.commands import Explorer
 from nezdrab.analysis.disassembly import Disassembler
+from nezdrab.analysis.explorer import Explorer
 from nezdrab.core.engine import Machine, Start
 from nezdrab.main import read_session
 from nezdrab.shell import prompt  # noqa: F401, it adds the commands

@@ -2,9 +2,10 @@
 import random
 from typing import Optional
 
-from nezdrab.analysis.commands import COMMANDS, Explorer
+from nezdrab.analysis.explorer import Explorer
 from nezdrab.core.engine import SHORT_SENT_AHEAD
 from nezdrab.core.replies import Registers
+from nezdrab.shell.commands import COMMANDS
 
 from .machines import OnMachine
 from .terminal import AtTerminal

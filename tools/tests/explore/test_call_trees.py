@@ -10,8 +10,8 @@ from unittest import mock
 
 from nezdrab.analysis import call_tree
 from nezdrab.analysis.call_tree import CallTree
-from nezdrab.analysis.commands import COMMANDS, Explorer
 from nezdrab.analysis.counting import Place
+from nezdrab.analysis.explorer import Explorer
 from nezdrab.analysis.profile import begin_of
 from nezdrab.analysis.routines import NOWHERE
 from nezdrab.core.errors import ExploreError
@@ -19,6 +19,7 @@ from nezdrab.core.replies import INSTRUCTION, INTERRUPT, Mode
 from nezdrab.core.symbol_files import Symbol
 from nezdrab.core.symbols import Symbols
 from nezdrab.export.callgrind import remarks, stacks_of
+from nezdrab.shell.commands import COMMANDS
 
 from .common import ROOT, SECONDS
 from .machines import LEDGER, OnMachine

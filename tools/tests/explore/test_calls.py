@@ -4,12 +4,13 @@ import random
 from dataclasses import dataclass
 from typing import Iterator, Optional, Sequence
 
-from nezdrab.analysis.commands import COMMANDS, Explorer
+from nezdrab.analysis.explorer import Explorer
 from nezdrab.analysis.levels import LOADED, NOT_CHECKED, Return, Stacks, call_in, pointer
 from nezdrab.analysis.listing import seen
 from nezdrab.core.engine import SHORT_SENT_AHEAD
 from nezdrab.core.errors import ExploreError
 from nezdrab.core.replies import Mode, Registers
+from nezdrab.shell.commands import COMMANDS
 
 from .machines import LEDGER, OnMachine
 

@@ -2,12 +2,13 @@
 from pathlib import Path
 from unittest import mock
 
-from nezdrab.analysis.commands import COMMANDS, Explorer
 from nezdrab.analysis.disassembly import Disassembler
+from nezdrab.analysis.explorer import Explorer
 from nezdrab.analysis.sweep import Sweep
 from nezdrab.core.engine import Machine
 from nezdrab.core.program import Program
 from nezdrab.main import read_session
+from nezdrab.shell.commands import COMMANDS
 
 from .machines import LEDGER, OnMachine
 

@@ -2,8 +2,8 @@
 import random
 from unittest import mock
 
+from nezdrab.analysis.memory_images import core_words, drive_image
 from nezdrab.core.engine import Refused
-from nezdrab.export.simh_state import core_words, drive_image
 
 from .systems import LEDGER, SYSTEMS, TOP, OfSystems
 

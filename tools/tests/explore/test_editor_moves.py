@@ -3,12 +3,13 @@ import random
 from typing import Iterator, Optional
 
 from checks.word_reads import first_reads_in
-from nezdrab.analysis.commands import COMMANDS, Explorer
+from nezdrab.analysis.explorer import Explorer
 from nezdrab.analysis.finder import TURNS_AT_FIRST
 from nezdrab.analysis.levels import Stacks
 from nezdrab.core.engine import SHORT_SENT_AHEAD
 from nezdrab.core.replies import Registers, Turn
 from nezdrab.dap.running import ahead
+from nezdrab.shell.commands import COMMANDS
 
 from .common import ROOT
 from .editor import Editor, Object

@@ -3,9 +3,10 @@ import base64
 import random
 from typing import Any
 
-from nezdrab.analysis.commands import COMMANDS, Explorer
+from nezdrab.analysis.explorer import Explorer
 from nezdrab.analysis.levels import Stacks
 from nezdrab.core.replies import Mode
+from nezdrab.shell.commands import COMMANDS
 
 from .common import ROOT
 from .editor import Editor, Object, WithEditors

@@ -3,13 +3,14 @@ import random
 import re
 from typing import Optional
 
-from nezdrab.analysis.commands import COMMANDS, Explorer
 from nezdrab.analysis.disassembly import Disassembler
+from nezdrab.analysis.explorer import Explorer
 from nezdrab.analysis.finder import Finder
 from nezdrab.core.engine import LAST_TURN, Machine
 from nezdrab.core.errors import ExploreError
 from nezdrab.core.replies import text_of
 from nezdrab.shell import prompt  # noqa: F401, it adds the commands
+from nezdrab.shell.commands import COMMANDS
 
 from .systems import KEYS, LEDGER, OfSystems
 

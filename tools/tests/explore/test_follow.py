@@ -4,13 +4,14 @@ import random
 from unittest import mock
 
 from nezdrab.analysis.cells import ALL_CODES, CODES, NAMES, drive_cell, register_cells, word_cells
-from nezdrab.analysis.commands import COMMANDS, Explorer
+from nezdrab.analysis.explorer import Explorer
 from nezdrab.analysis.follow import Followed
 from nezdrab.analysis.labels import Labels
 from nezdrab.analysis.made_of import TWO_OPERANDS, Row, plan_of
 from nezdrab.analysis.turn_flow import Flows
 from nezdrab.core.engine import Machine
 from nezdrab.core.errors import ExploreError
+from nezdrab.shell.commands import COMMANDS
 
 from .machines import LEDGER, OnMachine
 from .terminal import AtTerminal

@@ -2,10 +2,10 @@
 import re
 from typing import Iterable
 
-from nezdrab.analysis.commands import COMMANDS
 from nezdrab.core.errors import ExploreError
 from nezdrab.core.language import FORMS, LISTS, SEARCHES
 from nezdrab.shell import prompt  # which adds the commands
+from nezdrab.shell.commands import COMMANDS
 from nezdrab.shell.foreign import FOREIGN, sentence
 from nezdrab.shell.habits import HABITS
 

@@ -5,9 +5,9 @@ import struct
 import termios
 from typing import Optional
 
-from nezdrab.analysis.commands import COMMANDS
 from nezdrab.core.language import FORMS, LISTS, SEARCHES
 from nezdrab.shell import pager, prompt  # noqa: F401, which adds the commands
+from nezdrab.shell.commands import COMMANDS
 from nezdrab.shell.topics import ASKING, LINES, NAMED, SHOWING, TOPICS, commands_of
 
 from .common import SECONDS, Case

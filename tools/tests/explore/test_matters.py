@@ -4,7 +4,7 @@ import re
 import subprocess
 from typing import Optional, Sequence
 
-from nezdrab.analysis.commands import Explorer
+from nezdrab.analysis.explorer import Explorer
 from nezdrab.analysis.matters import Matters, Results, tried
 from nezdrab.analysis.moves import Change, Tried, Way
 from nezdrab.core.engine import LAST_TURN

@@ -4,8 +4,8 @@ import re
 import struct
 from typing import Iterator
 
-from nezdrab.analysis.commands import Explorer
 from nezdrab.analysis.disassembly import Disassembler
+from nezdrab.analysis.explorer import Explorer
 from nezdrab.analysis.listing import SeenTurn, seen
 from nezdrab.analysis.operand_values import STATUS, Memory, Operand, Walk, operands_of, texts_of
 from nezdrab.analysis.operand_values import walked, way_of

@@ -5,15 +5,16 @@ from pathlib import Path
 from typing import Optional
 from unittest import mock
 
-from nezdrab.analysis.commands import COMMANDS, Explorer
 from nezdrab.analysis.disassembly import Disassembler
+from nezdrab.analysis.explorer import Explorer
 from nezdrab.core.engine import Machine, Start
 from nezdrab.core.errors import ExploreError
 from nezdrab.core.files import OUTPUT
 from nezdrab.core.symbol_files import Symbol
 from nezdrab.export import page_file
-from nezdrab.export.page_file import BEGIN, END, EMPTY, NAME, PageSession, page_with
+from nezdrab.export.page_file import BEGIN, EMPTY, END, NAME, PageSession, page_with
 from nezdrab.export.web_session import symbol_text
+from nezdrab.shell.commands import COMMANDS
 
 from .common import BUILT, ROOT, SECONDS, Case
 from .machines import OnMachine

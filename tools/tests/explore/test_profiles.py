@@ -5,9 +5,9 @@ from collections import Counter
 from unittest import mock
 
 from nezdrab.analysis import profile
-from nezdrab.analysis.commands import Explorer
 from nezdrab.analysis.counting import AREA_BYTES, Place, areas_with_turns, windows_of
 from nezdrab.analysis.disassembly import Disassembler
+from nezdrab.analysis.explorer import Explorer
 from nezdrab.analysis.levels import call_in
 from nezdrab.analysis.profile import Profile, Share, begins_of, counted_profile, sampled_profile
 from nezdrab.analysis.profile import sampled_turns

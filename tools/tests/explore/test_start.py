@@ -3,7 +3,7 @@ import subprocess
 import sys
 from pathlib import Path
 
-from nezdrab.analysis.commands import COMMANDS, MODULES
+from nezdrab.shell.commands import COMMANDS, MODULES
 
 from .common import ROOT, SECONDS, Case
 
@@ -72,7 +72,7 @@ class Commands(Case):
     def test_none_is_read_at_the_start(self) -> None:
         """None but those that the prompt itself needs; and then the one that is typed."""
         code = (
-            "import sys\nfrom nezdrab import main\nfrom nezdrab.analysis import commands\n"
+            "import sys\nfrom nezdrab import main\nfrom nezdrab.shell import commands\n"
             "def show():\n"
             "    read = [it for it in commands.MODULES if f'nezdrab.{it}' in sys.modules]\n"
             "    print(*read)\n"

@@ -4,7 +4,7 @@ import random
 from typing import Sequence
 from unittest import mock
 
-from nezdrab.analysis.commands import Explorer
+from nezdrab.analysis.explorer import Explorer
 from nezdrab.analysis.matters import Matters, Results, tried
 from nezdrab.analysis.moves import Trial
 from nezdrab.analysis.unnoticed import Unnoticed

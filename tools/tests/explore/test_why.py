@@ -7,12 +7,13 @@ from xml.etree import ElementTree
 
 from nezdrab.analysis.account import ranges
 from nezdrab.analysis.cells import ALL_CODES, drive_cell, is_on_bus, register_cells
-from nezdrab.analysis.commands import COMMANDS, Explorer
+from nezdrab.analysis.explorer import Explorer
 from nezdrab.analysis.labels import Labels, events_with_data
 from nezdrab.analysis.origins import Origins
 from nezdrab.analysis.turn_flow import Flows
 from nezdrab.core.engine import Machine
 from nezdrab.core.errors import ExploreError
+from nezdrab.shell.commands import COMMANDS
 
 from .machines import LEDGER, OnMachine
 from .terminal import AtTerminal

@@ -11,7 +11,7 @@ from xml.etree import ElementTree
 
 import nezdrab
 from nezdrab import Machine, NezdrabError, questions
-from nezdrab.core import sessions, options, programs
+from nezdrab.core import programs, sessions
 
 from .common import EXAMPLES, ROOT, Case, program
 
@@ -95,7 +95,7 @@ class Programs(Case):
     def test_version(self) -> None:
         """That of the package is that of the newest release."""
         version = ".".join(str(int(it)) for it in nezdrab.__version__.split("-"))
-        self.assertEqual(nezdrab.__version__, options.release())
+        self.assertEqual(nezdrab.__version__, programs.release())
         self.assertIn(f'\nversion = "{version}"\n', (ROOT / "pyproject.toml").read_text())
 
     def test_document(self) -> None:

@@ -12,7 +12,7 @@ from typing import Callable
 from unittest import mock
 
 import sessions
-from nezdrab.analysis.commands import COMMANDS
+from nezdrab.shell.commands import COMMANDS
 from manual import made
 from manual.tables import programs
 from tests import under_test

@@ -2,14 +2,15 @@
 from pathlib import Path
 from typing import Sequence
 
-from nezdrab.analysis.commands import COMMANDS, Explorer
 from nezdrab.analysis.disassembly import Disassembler
+from nezdrab.analysis.explorer import Explorer
 from nezdrab.core.engine import Machine, Start
 from nezdrab.core.options import options_of_session, words_of_options
 from nezdrab.core.replies import Mode
 from nezdrab.core.symbol_files import symbol_file
 from nezdrab.main import read_session
 from nezdrab.shell import prompt  # noqa: F401, it adds the commands
+from nezdrab.shell.commands import COMMANDS
 
 from tests import under_test
 

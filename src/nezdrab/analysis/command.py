@@ -1,133 +1,19 @@
-"""The table of explore's own commands. Each module adds its commands to it."""
+"""What a command is: its form, the words that have this form, and what it does with them."""
 import itertools
 import re
-from collections.abc import MutableMapping
-from dataclasses import dataclass, field
+from dataclasses import dataclass
 from functools import cached_property
-from importlib import import_module
-from pathlib import Path
 from typing import Callable, Iterator, Optional
 
-from ..core.engine import LAST_TURN, Machine, Start
+from ..core.engine import LAST_TURN, Machine
 from ..core.errors import ExploreError
 from ..core.language import comma_fault
-from ..core.replies import Mode, Registers
-from ..core.symbols import ADDRESS, Symbols
-from .breakpoints import Breakpoints
-from .definitions import Definitions
-from .disassembly import Disassembler
-from .fades import Fading
-from .finder import Finder
+from ..core.replies import Mode
+from ..core.symbols import ADDRESS
+from .explorer import Explorer
 from .quotes import RULE, WORD, file_of, quote_fault, text_of
 
 MOST_WORDS = 20  # that are looked at for missing quotes
-PROMPT = "explore> "
-ENDS = frozenset(("quit", "q", "exit"))  # the words that end explore
-
-
-@dataclass(frozen=True)
-class Step:
-    """A line at the prompt that made edits, and these edits; if it started the program again with
-    other options, how it was started before and is since."""
-
-    line: str
-    edits: list[str]
-    starts: Optional[tuple[Start, Start]] = None
-
-
-@dataclass
-class Steps:
-    """What `undo` takes back and `redo` makes again, and how many edits there are so far."""
-
-    count: int = 0
-    done: list[Step] = field(default_factory=list)
-    undone: list[Step] = field(default_factory=list)
-    starts: Optional[tuple[Start, Start]] = None
-
-    def note(self, line: str, journal: list[str]) -> None:
-        """Takes in what a line has added to the edits, and whether it has changed the options."""
-        if len(journal) > self.count or self.starts:
-            self.done.append(Step(line.strip(), journal[self.count :], self.starts))
-            self.undone = []
-        self.count, self.starts = len(journal), None
-
-
-@dataclass
-class Sitting:
-    """How somebody sits at the console: the turn where the last one was left, turns a second,
-    whether bit 7 of what is printed is cleared, whether control bytes are shown as text, and
-    whether the terminal answers the program's queries."""
-
-    turn: Optional[int] = None
-    rate: int = 250_000
-    is_7bit: bool = False
-    is_escaped: bool = False
-    has_answers: bool = False
-
-
-@dataclass(frozen=True)
-class Shown:
-    """The registers that `show` showed last: before which turn, and of which past."""
-
-    turn: int
-    registers: Registers
-    start: Start
-    journal: list[str]
-
-
-@dataclass
-class Displays:
-    """The lines that are displayed, by numbers that are given once, and the current turn that they
-    were shown for last."""
-
-    lines: dict[int, str] = field(default_factory=dict)
-    count: int = 0
-    turn: int = 0
-
-
-class Interpreter:
-    """What does lines: the prompt."""
-
-    def lines(self, line: str) -> Iterator[str]:
-        """What a line shows."""
-        raise ExploreError("there is no prompt, which does lines")
-
-    def lines_as_typed(self, line: str) -> Iterator[str]:
-        """What a line shows that is done as if it were typed."""
-        return self.lines(line)
-
-
-@dataclass
-class Explorer:
-    """What the commands work on. `turn` is the current turn: the one that a line found or showed
-    last, also if an edit changes what happens before it. The edits that were saved last are those
-    of the session at first."""
-
-    machine: Machine
-    disassembler: Disassembler
-    symbols: Symbols = field(default_factory=Symbols)
-    session: Optional[Path] = None
-    turn: int = 0
-    shown: Optional[Shown] = None
-    is_terminal: bool = False
-    steps: Steps = field(default_factory=Steps)
-    saved: list[str] = field(default_factory=list)
-    sitting: Sitting = field(default_factory=Sitting)
-    fading: Fading = field(default_factory=Fading)
-    breakpoints: Breakpoints = field(default_factory=Breakpoints)
-    definitions: Definitions = field(default_factory=Definitions)
-    displays: Displays = field(default_factory=Displays)
-    interpreter: Interpreter = field(default_factory=Interpreter)
-    depth: int = 0  # of files that do one another
-
-    @property
-    def prompt(self) -> str:
-        """The prompt, at a terminal with the current turn if it isn't turn 0."""
-        return f"explore {self.turn}> " if self.turn and self.is_terminal else PROMPT
-
-    @property
-    def finder(self) -> Finder:
-        return Finder(self.machine)
 
 
 @dataclass(frozen=True)
@@ -211,55 +97,8 @@ class Command:
         return any(map(self.pattern.fullmatch, as_one))
 
 
-# Which module has which commands, in the order in which the manual page shows them.
-MODULES = {
-    **{"analysis.compare": "compare", "shell.console": "console", "shell.edits": "undo redo drop"},
-    **{"analysis.listing": "list", "analysis.dump": "dump", "analysis.profile": "profile"},
-    **{"shell.load": "load symbols names", "export.covered": "covered"},
-    **{"export.simh_state": "export", "analysis.script": "events save type"},
-    **{"export.page": "page", "analysis.screen": "screen"},
-    **{"analysis.search": "until next first where", "analysis.stepping": "step back run"},
-    "analysis.calls": "calls finish reverse-finish over reverse-over",
-    "analysis.breaking": "break watch rwatch catch breakpoints delete continue reverse-continue",
-    **{"analysis.changes": "changes", "analysis.difference": "diff", "analysis.follow": "follow"},
-    **{"analysis.accesses": "accesses", "analysis.lost": "lost", "analysis.sweep": "sweep"},
-    **{"analysis.matters": "matters", "analysis.reads": "reads", "analysis.seeing": "see show"},
-    **{"analysis.why": "why", "shell.images": "core disk", "shell.simh": "import"},
-    **{"shell.defining": "define undefine defines", "shell.display": "display undisplay"},
-    **{"shell.do_file": "do", "analysis.expecting": "expect", "shell.log": "log"},
-}
-
-
-class Commands(MutableMapping[str, Command]):
-    """The commands by their names. The module of one is read when the command is asked for."""
-
-    def __init__(self) -> None:
-        self.modules = {it: name for name, words in MODULES.items() for it in words.split()}
-        self.found: dict[str, Command] = {}
-
-    def __getitem__(self, name: str) -> Command:
-        if name not in self.found and name in self.modules:
-            import_module(f"nezdrab.{self.modules[name]}")
-        return self.found[name]
-
-    def __setitem__(self, name: str, command: Command) -> None:
-        self.modules.setdefault(name, "")
-        self.found[name] = command
-
-    def __delitem__(self, name: str) -> None:
-        del self.modules[name], self.found[name]
-
-    def __contains__(self, name: object) -> bool:
-        return name in self.modules
-
-    def __iter__(self) -> Iterator[str]:
-        return iter(self.modules)
-
-    def __len__(self) -> int:
-        return len(self.modules)
-
-
-COMMANDS = Commands()
+# The commands by their names, of the modules that were read.
+READ: dict[str, Command] = {}
 
 
 def check_turn(turn: int) -> None:
@@ -279,6 +118,12 @@ def turns_between(first: int, last: int) -> range:
     if last < first:
         raise ExploreError(f"turn {last} comes before turn {first}")
     return range(first, last + 1)
+
+
+def check_even(address: int) -> None:
+    """An error if words can't be moved to this address."""
+    if address % 2:
+        raise ExploreError(f"A is odd: {address:o}")
 
 
 def check_drive(machine: Machine) -> None:
@@ -321,7 +166,7 @@ def command(form: str, pattern: str, summary: str) -> Callable[[Run], Run]:
     def register(run: Run) -> Run:
         detail = "\n".join(line.strip() for line in (run.__doc__ or "").strip().splitlines())
         made = Command(form, whole, summary, detail, run, *kinds.values())
-        COMMANDS[made.name] = made
+        READ[made.name] = made
         return run
 
     return register

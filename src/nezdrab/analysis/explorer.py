@@ -1,0 +1,121 @@
+"""What commands work on: the machine, the current turn, and what lines have made."""
+from dataclasses import dataclass, field
+from pathlib import Path
+from typing import Iterator, Optional
+
+from ..core.engine import Machine, Start
+from ..core.errors import ExploreError
+from ..core.replies import Registers
+from ..core.symbols import Symbols
+from .breakpoints import Breakpoints
+from .definitions import Definitions
+from .disassembly import Disassembler
+from .fades import Fading
+from .finder import Finder
+
+PROMPT = "explore> "
+
+
+@dataclass(frozen=True)
+class Step:
+    """A line at the prompt that made edits, and these edits; if it started the program again with
+    other options, how it was started before and is since."""
+
+    line: str
+    edits: list[str]
+    starts: Optional[tuple[Start, Start]] = None
+
+
+@dataclass
+class Steps:
+    """What `undo` takes back and `redo` makes again, and how many edits there are so far."""
+
+    count: int = 0
+    done: list[Step] = field(default_factory=list)
+    undone: list[Step] = field(default_factory=list)
+    starts: Optional[tuple[Start, Start]] = None
+
+    def note(self, line: str, journal: list[str]) -> None:
+        """Takes in what a line has added to the edits, and whether it has changed the options."""
+        if len(journal) > self.count or self.starts:
+            self.done.append(Step(line.strip(), journal[self.count :], self.starts))
+            self.undone = []
+        self.count, self.starts = len(journal), None
+
+
+@dataclass
+class Sitting:
+    """How somebody sits at the console: the turn where the last one was left, turns a second,
+    whether bit 7 of what is printed is cleared, whether control bytes are shown as text, and
+    whether the terminal answers the program's queries."""
+
+    turn: Optional[int] = None
+    rate: int = 250_000
+    is_7bit: bool = False
+    is_escaped: bool = False
+    has_answers: bool = False
+
+
+@dataclass(frozen=True)
+class Shown:
+    """The registers that `show` showed last: before which turn, and of which past."""
+
+    turn: int
+    registers: Registers
+    start: Start
+    journal: list[str]
+
+
+@dataclass
+class Displays:
+    """The lines that are displayed, by numbers that are given once, and the current turn that they
+    were shown for last."""
+
+    lines: dict[int, str] = field(default_factory=dict)
+    count: int = 0
+    turn: int = 0
+
+
+class Interpreter:
+    """What does lines: the prompt."""
+
+    def lines(self, line: str) -> Iterator[str]:
+        """What a line shows."""
+        raise ExploreError("there is no prompt, which does lines")
+
+    def lines_as_typed(self, line: str) -> Iterator[str]:
+        """What a line shows that is done as if it were typed."""
+        return self.lines(line)
+
+
+@dataclass
+class Explorer:
+    """What the commands work on. `turn` is the current turn: the one that a line found or showed
+    last, also if an edit changes what happens before it. The edits that were saved last are those
+    of the session at first."""
+
+    machine: Machine
+    disassembler: Disassembler
+    symbols: Symbols = field(default_factory=Symbols)
+    session: Optional[Path] = None
+    turn: int = 0
+    shown: Optional[Shown] = None
+    is_terminal: bool = False
+    steps: Steps = field(default_factory=Steps)
+    saved: list[str] = field(default_factory=list)
+    sitting: Sitting = field(default_factory=Sitting)
+    fading: Fading = field(default_factory=Fading)
+    breakpoints: Breakpoints = field(default_factory=Breakpoints)
+    definitions: Definitions = field(default_factory=Definitions)
+    displays: Displays = field(default_factory=Displays)
+    interpreter: Interpreter = field(default_factory=Interpreter)
+    depth: int = 0  # of files that do one another
+
+    @property
+    def prompt(self) -> str:
+        """The prompt, at a terminal with the current turn if it isn't turn 0."""
+        return f"explore {self.turn}> " if self.turn and self.is_terminal else PROMPT
+
+    @property
+    def finder(self) -> Finder:
+        return Finder(self.machine)
