@@ -10,7 +10,7 @@ def lack() -> str:
     if sys.version_info < (3, 9):
         return "this one is %d.%d" % sys.version_info[:2]
     try:
-        for name in "dataclasses", "ntpath", "shutil", "termios":
+        for name in "ntpath", "shutil", "termios":
             __import__(name)
     except ImportError:
         return "this one has no module %s, as python3-minimal" % name

@@ -2,7 +2,6 @@
 import argparse
 import os
 import sys
-from dataclasses import replace
 from pathlib import Path
 from typing import Iterator, Optional
 
@@ -15,6 +14,7 @@ from .core.interrupts import INTERRUPTS
 from .core.options import FILES, Options, check_session, option_lines, words_of_options
 from .core.programs import found_program
 from .core.session_file import refused_lines
+from .core.values import replace
 from .shell.command_line import Parser, ShowVersion, add_options, check_options, options_of
 from .shell.journal import NO_SESSION, OF_SESSION, Contents, Journal, in_use, newest, state_folder
 from .shell.journal import there_already, told

@@ -1,8 +1,10 @@
 """python: the Python of tools/ and of the package in src/ by mypy, with its strict settings,
-and by ruff, each as Python 3.9 has the language. It counts the files in which each finds nothing.
-mypy reads the modules, ruff the tools too. What isn't installed is skipped.
+and by ruff, each as Python 3.9 has the language; and the rooms of the package, whose imports go
+downwards only, and in which no name of a module stands twice. It counts the files in which each
+finds nothing. mypy reads the modules, ruff the tools too. What isn't installed is skipped.
 
-The last line is 'N passed, M failed'. The status is 77 if neither is installed."""
+The last line is 'N passed, M failed'. The status is 77 if neither is installed, and the rooms are
+right."""
 import json
 import os
 import re
@@ -12,6 +14,8 @@ import sys
 from pathlib import Path
 
 import sessions
+
+from . import rooms
 
 FOLDER = Path(__file__).resolve().parents[1]
 SOURCES = FOLDER.parent / "src"
@@ -60,6 +64,16 @@ def wrong_by_ruff(files: list[str]) -> set[str]:
     return wrong
 
 
+def wrong_by_rooms() -> set[str]:
+    """Shows the imports that go upwards, and names that stand twice; returns their files."""
+    wrong = set()
+    for path, said in (*rooms.upward_imports(), *rooms.names_twice()):
+        name = os.path.relpath(path, FOLDER)
+        print(f"{name}:{said}")
+        wrong.add(name)
+    return wrong
+
+
 def run(command: list[str]) -> "subprocess.CompletedProcess[str]":
     environment = {**os.environ, "MYPYPATH": f".:{SOURCES}"}
     return subprocess.run(command, cwd=FOLDER, env=environment, capture_output=True, text=True)
@@ -88,8 +102,12 @@ def main() -> int:
         except (CheckerFailed, ValueError) as error:
             print(f"{name} checked nothing: {error}")
             failed += 1
+    is_skipped = passed == failed == 0
+    wrong = wrong_by_rooms()
+    failed += len(wrong)
+    passed += sum(1 for _ in PACKAGE.rglob("*.py")) - len(wrong)
     print(f"{passed} passed, {failed} failed")
-    return SKIPPED if passed == failed == 0 else int(failed > 0)
+    return SKIPPED if is_skipped and not wrong else int(failed > 0)
 
 
 if __name__ == "__main__":

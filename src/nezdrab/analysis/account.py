@@ -1,8 +1,8 @@
 """The steps of a value as lines, like an account book: what it is made of stands below it, and the
 part with the most behind it goes on at the same indent."""
-from dataclasses import dataclass, field
 from typing import Iterable, Iterator, Sequence
 
+from ..core.values import dataclass, field
 from .cells import CODES, DRIVES, byte_of_drive, is_core, is_of_drive, is_register, name_of
 from .explorer import Explorer
 from .listing import turns_in_words

@@ -1,10 +1,10 @@
 """The one-line assembler: an instruction in the syntax of MACRO-11, as words."""
 import re
-from dataclasses import dataclass, field
 from typing import Callable
 
 from ..core.errors import ExploreError
 from ..core.language import MOST_DIGITS
+from ..core.values import dataclass, field
 
 WORDS, LARGEST, SMALLEST = 0o200000, 0o177777, -0o100000
 REGISTERS = ("R0", "R1", "R2", "R3", "R4", "R5", "SP", "PC")

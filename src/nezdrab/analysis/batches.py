@@ -1,10 +1,10 @@
 """All turns of a range, one after the other: the registers before each, and its act."""
 import re
-from dataclasses import dataclass
 from typing import Iterator
 
 from ..core.engine import Machine
 from ..core.replies import Turn
+from ..core.values import dataclass
 from .crew import Progress
 
 TURNS_OF_A_BATCH = 4_096

@@ -1,10 +1,10 @@
 """Breakpoints: what each of them looks for, and the turn in which the first or the last holds."""
-from dataclasses import dataclass, field
 from typing import Optional
 
 from ..core.engine import Machine
 from ..core.errors import ExploreError
 from ..core.replies import LastWrite, WordRead
+from ..core.values import dataclass, field
 from .finder import Finder, growing_parts
 
 

@@ -1,9 +1,9 @@
 """The turns of a batch that a walk along the calls has to look at."""
-from dataclasses import dataclass
 from typing import Iterator, NamedTuple, Optional
 
 from ..core.engine import Machine
 from ..core.replies import MODES, Mode, Registers, Turn
+from ..core.values import dataclass
 from .batches import KSP, PC, PLACE, POINTERS, STATUS, USP, Batch
 from .finder import parts_of
 from .levels import JSR, NEAR_BYTES, WITH_NUMBER, WITHOUT, Done, is_load

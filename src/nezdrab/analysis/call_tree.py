@@ -1,9 +1,9 @@
 """Calls as a tree, by a walk over a range of turns: under which calls each turn was."""
-from dataclasses import dataclass, field
 from typing import Optional
 
 from ..core.errors import ExploreError
 from ..core.replies import INTERRUPT, MODES, Mode
+from ..core.values import dataclass, field
 from .batches import PLACE, STATE, STATUS, batches_of
 from .call_steps import Known, Step, steps_of
 from .counting import Place

@@ -1,10 +1,10 @@
 """All values of a word: `changes`."""
-from dataclasses import dataclass
 from itertools import islice
 from typing import Iterator, Sequence, Union
 
 from ..core.engine import LAST_TURN
 from ..core.in_words import counted, span
+from ..core.values import dataclass
 from .command import Arguments, command, searched_range
 from .disk_words import DiskWord, functions_in_words
 from .explorer import Explorer

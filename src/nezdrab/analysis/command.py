@@ -1,7 +1,6 @@
 """What a command is: its form, the words that have this form, and what it does with them."""
 import itertools
 import re
-from dataclasses import dataclass
 from functools import cached_property
 from typing import Callable, Iterator, Optional
 
@@ -10,6 +9,7 @@ from ..core.errors import ExploreError
 from ..core.language import comma_fault
 from ..core.replies import Mode
 from ..core.symbols import ADDRESS
+from ..core.values import dataclass
 from .explorer import Explorer
 from .quotes import RULE, WORD, file_of, quote_fault, text_of
 
@@ -40,24 +40,48 @@ Run = Callable[[Explorer, Arguments], Iterator[str]]
 
 @dataclass(frozen=True)
 class Command:
-    """A command: its form, the words that have this form, and what it is for."""
+    """A command: its form, the words that have this form, what it is for, and what it does. In the
+    pattern of the words a space stands for spaces and tabs, and <turn:decimal> for a named part."""
 
     form: str
-    source: str  # of the pattern
+    words: str
     summary: str
-    detail: str
     run: Run
-    addresses: frozenset[str] = frozenset()
-    files: frozenset[str] = frozenset()
-    texts: frozenset[str] = frozenset()
 
     @property
     def name(self) -> str:
         return self.form.split()[0]
 
+    @property
+    def detail(self) -> str:
+        """What `help` shows besides: the docstring."""
+        lines = (self.run.__doc__ or "").strip().splitlines()
+        return "\n".join(it.strip() for it in lines)
+
+    @cached_property
+    def addresses(self) -> frozenset[str]:
+        return self.parts_of("address")
+
+    @cached_property
+    def files(self) -> frozenset[str]:
+        return self.parts_of("file")
+
+    @cached_property
+    def texts(self) -> frozenset[str]:
+        return self.parts_of("text")
+
+    def parts_of(self, kind: str) -> frozenset[str]:
+        """The names of the parts of this kind."""
+        return frozenset(re.findall(rf"<(\w+):{kind}>", self.words))
+
     @cached_property
     def pattern(self) -> "re.Pattern[str]":
-        return re.compile(self.source)
+        def part(found: "re.Match[str]") -> str:
+            return f"(?P<{found[1]}>{PARTS[found[2]]})"
+
+        whole = re.sub(r"<(\w+):(\w+)>", part, self.words)
+        whole = whole.replace("{from}", PARTS["from"]).replace("{to}", PARTS["to"])
+        return re.compile(whole.replace(" ", BLANKS))
 
     def lines(self, explorer: Explorer, words: str) -> Iterator[str]:
         match = self.pattern.fullmatch(words.strip(" \t"))
@@ -149,23 +173,10 @@ PARTS = {
 
 
 def command(form: str, pattern: str, summary: str) -> Callable[[Run], Run]:
-    """Adds the function to the table. Its docstring is the detail of `help`. In the pattern a
-    space stands for spaces and tabs, and <turn:decimal> for a named part."""
-
-    def part(found: "re.Match[str]") -> str:
-        return f"(?P<{found[1]}>{PARTS[found[2]]})"
-
-    kinds = {
-        kind: frozenset(re.findall(rf"<(\w+):{kind}>", pattern))
-        for kind in ("address", "file", "text")
-    }
-    whole = re.sub(r"<(\w+):(\w+)>", part, pattern)
-    whole = whole.replace("{from}", PARTS["from"]).replace("{to}", PARTS["to"])
-    whole = whole.replace(" ", BLANKS)
+    """Adds the function to the table. Its docstring is the detail of `help`."""
 
     def register(run: Run) -> Run:
-        detail = "\n".join(line.strip() for line in (run.__doc__ or "").strip().splitlines())
-        made = Command(form, whole, summary, detail, run, *kinds.values())
+        made = Command(form, pattern, summary, run)
         READ[made.name] = made
         return run
 

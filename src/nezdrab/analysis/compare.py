@@ -2,11 +2,11 @@
 import os.path
 import re
 from contextlib import closing
-from dataclasses import dataclass
 from typing import Iterator, Optional
 
 from ..core.engine import Machine
 from ..core.in_words import span
+from ..core.values import dataclass
 from .command import Arguments, command, turn_range
 from .crew import Progress
 from .explorer import Explorer

@@ -1,9 +1,9 @@
 """How often the instructions of a range of turns ran, by the line `counts`."""
-from dataclasses import dataclass
 from typing import Iterable, Iterator
 
 from ..core.engine import MOST_WORDS, Machine
 from ..core.replies import Mode
+from ..core.values import dataclass
 from .finder import Finder, parts_of
 from .listing import VIRTUAL
 

@@ -5,12 +5,12 @@ import sys
 import threading
 import time
 from contextlib import closing
-from dataclasses import dataclass
 from operator import length_hint
 from typing import Callable, ClassVar, Iterable, Iterator, Optional, TypeVar
 
 from ..core.engine import Machine
 from ..core.errors import ExploreError
+from ..core.values import dataclass
 
 Task = TypeVar("Task")
 Result = TypeVar("Result")

@@ -1,13 +1,13 @@
 """Words that stand for lines, each with its line."""
 import re
-from dataclasses import dataclass, field
 
 from ..core import sessions
 from ..core.errors import ExploreError
+from ..core.values import dataclass, field
 from .quotes import WORD, quote_fault
 
 # What stands for an argument, for all of them, and for the current turn.
-PLACE = re.compile(r"\$([1-9*]|turn\b)")
+PLACE = r"\$([1-9*]|turn\b)"
 ALL, TURN = "*", "turn"
 LONGEST_LINE = 65_536  # characters, with the arguments in it
 MOST_DEEP = 16  # words that lead to one another
@@ -36,14 +36,14 @@ class Definitions:
 
     def with_arguments(self, word: str, rest: str, turn: str) -> str:
         line, given = self.lines[word], arguments_of(rest)
-        places = {it for it in PLACE.findall(line) if it != TURN}
+        places = {it for it in re.findall(PLACE, line) if it != TURN}
         most = max((int(it) for it in places if it != ALL), default=0)
         if len(given) < most:
             raise ExploreError(f"${len(given) + 1} is missing; {word} is: {line}")
         if len(given) > most and ALL not in places:
             raise ExploreError(f"'{given[most]}' is too much; {word} is: {line}")
         values = {ALL: rest, TURN: turn, **{f"{at}": it for at, it in enumerate(given, 1)}}
-        found = PLACE.sub(lambda it: values[it[1]], line)
+        found = re.sub(PLACE, lambda it: values[it[1]], line)
         if len(found) > LONGEST_LINE:
             raise ExploreError(f"the line has more than {LONGEST_LINE} characters with its words")
         return found

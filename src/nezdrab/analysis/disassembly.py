@@ -1,9 +1,9 @@
 """The program disassemble as a child process."""
-from dataclasses import dataclass
 from typing import Optional, Sequence
 
 from ..core.children import Child, ProgramEnded
 from ..core.errors import ExploreError
+from ..core.values import dataclass
 
 
 @dataclass(frozen=True)

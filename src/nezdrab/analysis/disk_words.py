@@ -1,11 +1,11 @@
 """When a word of a drive changes, and by what."""
-from dataclasses import dataclass
 from typing import Iterable, Iterator, Mapping, Optional, Sequence
 
 from ..core.engine import Machine
 from ..core.hardware import SECTOR_WORDS
 from ..core.in_words import counted
 from ..core.replies import Devices, DiskFunction
+from ..core.values import dataclass
 from .command import check_drive
 from .explorer import Explorer
 from .finder import parts_of

@@ -1,6 +1,5 @@
 """Words where they are: `dump`."""
 import itertools
-from dataclasses import dataclass, field
 from typing import Iterable, Iterator, Optional, Sequence
 
 from ..core.engine import MOST_WORDS, SHORT_SENT_AHEAD, Machine
@@ -9,6 +8,7 @@ from ..core.hardware import DRIVE_WORDS
 from ..core.language import is_decimal
 from ..core.options import UNIT_BYTES
 from ..core.replies import Mode, words_of
+from ..core.values import dataclass, field
 from .command import Arguments, command
 from .explorer import Explorer
 from .listing import Listed

@@ -1,5 +1,4 @@
 """What commands work on: the machine, the current turn, and what lines have made."""
-from dataclasses import dataclass, field
 from pathlib import Path
 from typing import Iterator, Optional
 
@@ -7,6 +6,7 @@ from ..core.engine import Machine, Start
 from ..core.errors import ExploreError
 from ..core.replies import Registers
 from ..core.symbols import Symbols
+from ..core.values import dataclass, field
 from .breakpoints import Breakpoints
 from .definitions import Definitions
 from .disassembly import Disassembler

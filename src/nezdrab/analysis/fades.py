@@ -1,5 +1,4 @@
 """Where edits end to matter: from which turn on the run after them is the one before them again."""
-from dataclasses import dataclass
 from typing import Optional, Sequence
 
 from ..core.engine import Machine, is_refused
@@ -8,6 +7,7 @@ from ..core.interrupts import INTERRUPTS
 from ..core.language import FADING, MOST_DIGITS, is_decimal
 from ..core.past import PATCHES
 from ..core.sessions import words_of
+from ..core.values import dataclass
 
 MOST_TURNS = 20_000_000  # that edits are asked about from one question to the next
 LEAST_TURNS = 10_000  # that one edit counts for: to ask about it takes up to a stride

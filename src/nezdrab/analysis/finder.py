@@ -1,9 +1,9 @@
 """Finds turns, by the searches of the program search."""
-from dataclasses import dataclass
 from typing import Callable, Iterator, Optional
 
 from ..core.engine import Machine
 from ..core.replies import LastWrite, WordRead
+from ..core.values import dataclass
 from .crew import Progress
 
 TURNS_OF_A_SEARCH = 10_000_000  # searched at once, in a tenth of a second or more

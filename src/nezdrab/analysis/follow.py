@@ -1,5 +1,4 @@
 """What became of an event: `follow`."""
-from dataclasses import dataclass, field
 from typing import Iterator, Optional, Sequence
 
 from ..core.engine import LAST_TURN, Machine
@@ -7,6 +6,7 @@ from ..core.errors import ExploreError
 from ..core.in_words import counted
 from ..core.interrupts import INTERRUPTS
 from ..core.past import Event
+from ..core.values import dataclass, field
 from .cells import C, N, OUTPUTS, TPB, V, Z, byte_of_drive, is_core, is_of_drive, name_of, some_of
 from .command import Arguments, command
 from .explorer import Explorer

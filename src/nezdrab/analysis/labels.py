@@ -1,8 +1,8 @@
 """Labels of data, carried forwards over the turns: which cells are made of what has a label."""
-from dataclasses import dataclass, field
 from typing import Iterator, NamedTuple, Sequence
 
 from ..core.engine import Machine
+from ..core.values import dataclass, field
 from .cells import OF_THE_DISK, SWITCHES, TKB, word_cells
 from .operands import How, Move
 from .transfers import Transfer

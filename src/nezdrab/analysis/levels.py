@@ -1,12 +1,12 @@
 """The calls that a turn stands in: the words of a stack are asked which turn wrote them (`last`),
 and each such turn whether it was a JSR, an interrupt or a trap that pushed them."""
 import itertools
-from dataclasses import dataclass, field
 from typing import Iterator, Optional
 
 from ..core.engine import SHORT_SENT_AHEAD, Machine
 from ..core.replies import INSTRUCTION, INTERRUPT, LastWrite, Mode, Registers, Turn, turns_of
 from ..core.replies import words_of
+from ..core.values import dataclass, field
 from .finder import growing_parts
 from .listing import UNIT_BYTES, VIRTUAL
 

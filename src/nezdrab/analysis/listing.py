@@ -1,12 +1,12 @@
 """Turns and instructions with their texts: `list`."""
 import itertools
-from dataclasses import dataclass
 from typing import Iterable, Iterator, Optional, Sequence
 
 from ..core.engine import MOST_WORDS, SHORT_SENT_AHEAD, Machine
 from ..core.errors import ExploreError
 from ..core.replies import INSTRUCTION, INTERRUPT, LastWrite, Mode, Registers, Turn, turns_of
 from ..core.replies import words_of
+from ..core.values import dataclass
 from .command import Arguments, command
 from .disassembly import Instruction
 from .explorer import Explorer

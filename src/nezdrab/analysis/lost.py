@@ -1,5 +1,4 @@
 """Which runs of an instruction have left nothing: `lost`."""
-from dataclasses import dataclass, field
 from typing import Iterator
 
 from ..core.engine import Machine
@@ -7,6 +6,7 @@ from ..core.errors import ExploreError
 from ..core.in_words import counted, span
 from ..core.interrupts import INTERRUPTS
 from ..core.replies import INSTRUCTION, MODES, Mode
+from ..core.values import dataclass, field
 from .cells import is_core, is_of_drive, is_register
 from .command import Arguments, command, turns_between
 from .explorer import Explorer

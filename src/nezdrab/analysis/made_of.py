@@ -4,8 +4,9 @@ s and S are the low and the high byte of the source, d and D those of the destin
 operand; r is the register, or the pair, of the extended arithmetic; C and N are these codes. A part
 of a result is made of the letters of its column. `""` is a constant, `-` isn't written."""
 import functools
-from dataclasses import dataclass
 from typing import Optional, Sequence
+
+from ..core.values import dataclass
 
 KEPT = "-"
 LETTERS = "sSdDrCN"

@@ -1,6 +1,5 @@
 """Which events a reply depends on, and how near a move of each changes it: `matters`."""
 import re
-from dataclasses import dataclass, field
 from pathlib import Path
 from typing import Iterable, Iterator, Optional, Sequence
 
@@ -13,6 +12,7 @@ from ..core.interrupts import INTERRUPTS
 from ..core.language import comma_fault, explanation
 from ..core.past import Event
 from ..core.sessions import words_of
+from ..core.values import dataclass, field
 from .command import Arguments, command
 from .crew import Progress, each_of
 from .explorer import Explorer

@@ -1,12 +1,12 @@
 """What `matters` shows."""
 import os
 import re
-from dataclasses import dataclass
 from typing import Iterable, Iterator, Mapping, Sequence
 
 from ..core.engine import LAST_TURN
 from ..core.in_words import counted
 from ..core.past import Event
+from ..core.values import dataclass
 from .moves import Tried, Way
 
 # Of a value in the table, in characters.

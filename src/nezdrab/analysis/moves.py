@@ -1,5 +1,4 @@
 """An event that is dropped, or moved by some turns: the work of `matters`."""
-from dataclasses import dataclass, field
 from enum import Enum
 from typing import Iterable, Iterator, Optional, Sequence
 
@@ -7,6 +6,7 @@ from ..core.engine import LAST_TURN, Machine, is_refused
 from ..core.errors import ExploreError
 from ..core.language import explanation
 from ..core.past import Event
+from ..core.values import dataclass, field
 from .unnoticed import Unnoticed
 
 FIRST_BLOCK, LARGEST_BLOCK = 16, 256  # moves that are tried in one task

@@ -1,10 +1,10 @@
 """The operands of an instruction: where each of them is, what the instruction finds there, and what
 is there after its turn. The rules are those of docs/MACHINE.md, sections 3 to 5."""
-from dataclasses import dataclass, field, replace
 from typing import Callable, Iterator, Optional, Sequence
 
 from ..core.engine import Machine
 from ..core.replies import SPACES, Devices, DiskFunction, Mode, Registers
+from ..core.values import dataclass, field, replace
 from .addressing import PC, SP, addressing_of
 from .levels import pointer
 from .listing import IO_PAGE, NOT_WHOLE, UNIT_BYTES, VIRTUAL

@@ -1,11 +1,11 @@
 """Where the data of a turn goes: the operands of instructions, pushes and pops, in the order of
 docs/MACHINE.md, Operands, and what each write is made of."""
-from dataclasses import dataclass, field
 from enum import Enum
 from typing import NamedTuple, Optional
 
 from ..core.engine import Machine
 from ..core.replies import Turn
+from ..core.values import dataclass, field
 from .addressing import PC, SP, addressing_of
 from .cells import ALL_CODES, IO_PAGE, KEPT, KSP, MASK, NOTHING, OF_THE_DISK, OUTPUTS
 from .cells import PC as POINT_CELL, PS, REST, USP, Cells, register_cells, word_cells

@@ -3,13 +3,13 @@ made of cells before it, down to events and to what is there since power-up."""
 import bisect
 import heapq
 from collections import defaultdict
-from dataclasses import dataclass
 from enum import IntEnum
 from typing import Iterator, NamedTuple, Optional, Sequence
 
 from ..core.engine import Machine
 from ..core.errors import ExploreError
 from ..core.interrupts import INTERRUPTS
+from ..core.values import dataclass
 from .cells import INPUTS, KEPT, PC, PRB, byte_of_drive, drive_cell, first_of, is_core, is_of_drive
 from .cells import is_on_bus
 from .crew import Progress

@@ -3,7 +3,6 @@ import bisect
 import math
 import random
 from collections import Counter
-from dataclasses import dataclass, field
 from typing import Iterable, Iterator, Optional
 
 from ..core.engine import SHORT_SENT_AHEAD, Machine
@@ -11,6 +10,7 @@ from ..core.errors import ExploreError
 from ..core.in_words import counted, span
 from ..core.replies import INSTRUCTION, Mode, Registers, turns_of, words_of
 from ..core.symbols import FARTHEST
+from ..core.values import dataclass, field
 from .command import Arguments, command
 from .counting import MODES, Area, Place, areas_with_turns, counts_at, windows_of
 from .crew import Progress

@@ -1,5 +1,4 @@
 """The program started again with other options, and with all edits."""
-from dataclasses import replace
 from pathlib import Path
 from typing import Callable, Mapping, Optional, Sequence
 
@@ -7,6 +6,7 @@ from ..core.engine import Machine, Start, is_refused
 from ..core.errors import ExploreError
 from ..core.interrupts import INTERRUPTS
 from ..core.options import Options, faults_of, option_lines, options_of_words, words_of_options
+from ..core.values import replace
 from .explorer import Explorer
 
 

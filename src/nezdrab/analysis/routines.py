@@ -1,9 +1,9 @@
 """Which routine each turn of a range is in."""
 import re
-from dataclasses import dataclass
 from typing import Optional
 
 from ..core.replies import MODES as MODE_OF, Mode
+from ..core.values import dataclass
 from .counting import MODES, Place
 from .explorer import Explorer
 from .profile import Profile, begin_of, begins_of, counted_profile, name_of

@@ -7,7 +7,7 @@ from typing import Iterator, Sequence
 
 from ..core.engine import LAST_TURN, Machine, in_parts, is_refused
 from ..core.errors import ExploreError
-from ..core.files import write_whole as write_whole
+from ..core.files import write_whole
 from ..core.hardware import DELAYS
 from ..core.in_words import counted, some_are
 from ..core.options import option_lines, options_of_words

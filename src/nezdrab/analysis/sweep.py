@@ -2,7 +2,6 @@
 import hashlib
 import re
 from contextlib import closing
-from dataclasses import dataclass, field
 from pathlib import Path
 from typing import Container, Iterator, Optional, Sequence
 
@@ -15,6 +14,7 @@ from ..core.interrupts import INTERRUPTS
 from ..core.language import MOST_DIGITS, SEARCHES, comma_fault, explanation, is_decimal, is_edit
 from ..core.past import Event
 from ..core.sessions import words_of
+from ..core.values import dataclass, field
 from .command import Arguments, check_turn, command
 from .crew import Progress, each_of
 from .explorer import Explorer

@@ -1,10 +1,10 @@
 """Which functions of the disk were done, by the line `transfers`, and which words they moved."""
-from dataclasses import dataclass
 from typing import Iterator, Optional, Sequence
 
 from ..core.engine import Machine
 from ..core.hardware import SECTOR_WORDS
 from ..core.replies import Devices, DiskFunction
+from ..core.values import dataclass
 from .cells import drive_cell
 
 UNIT_BYTES = 0o20000

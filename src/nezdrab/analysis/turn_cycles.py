@@ -1,12 +1,12 @@
 """Where the references of a turn go: words of core, physical addresses, and which turns trap. All
 that is asked of the program for the rules of data stands here."""
 import re
-from dataclasses import dataclass, field
 from typing import Iterator, NamedTuple, Optional, Sequence
 
 from ..core.engine import Machine
 from ..core.errors import ExploreError
 from ..core.replies import MODES, Mode, Turn, words_of
+from ..core.values import dataclass, field
 from .cells import IO_PAGE
 from .transfers import UNIT_BYTES, Transfer
 

@@ -16,12 +16,12 @@ replies but those of `devices` about a turn between.
 What can't be told is a turn that notices: traps, interrupts, code behind a page's end, a pointer
 in memory, and a turn in whose beginning the disk reads. That costs a run, and no reply is wrong."""
 import threading
-from dataclasses import dataclass, field
 from typing import Iterator, NamedTuple, Optional, Sequence
 
 from ..core.engine import SHORT_SENT_AHEAD, Machine
 from ..core.errors import ExploreError
 from ..core.replies import INSTRUCTION, MODES, SPACES, Devices, DiskFunction, words_of
+from ..core.values import dataclass, field
 from .operands import Flow
 from .transfers import functions_done
 from .turn_cycles import Row, Space, traps

@@ -1,6 +1,5 @@
 """What a value is made of: `why`."""
 import itertools
-from dataclasses import dataclass
 from pathlib import Path
 from typing import Iterator, NamedTuple, Sequence
 
@@ -8,6 +7,7 @@ from ..core.engine import Machine
 from ..core.errors import ExploreError
 from ..core.files import write_whole
 from ..core.in_words import counted
+from ..core.values import dataclass
 from .account import MOST_ENDS, Account, ranges
 from .cells import ALL_CODES, NAMES, REST, TPB, byte_of_drive, drive_cell, is_of_drive, name_of
 from .cells import register_cells, word_cells

@@ -1,9 +1,9 @@
 """The steps of a value as a graph in SVG: the value at the top, and each step below what it goes
 into. A line leads from each step to those that it is made of."""
 import html
-from dataclasses import dataclass, field
 from typing import Iterator, Optional
 
+from ..core.values import dataclass, field
 from .account import NOT_FOLLOWED, Account
 from .origins import Kind
 from .steps import Source, Step, Steps

@@ -4,12 +4,12 @@ there is no relocation. Then come text, data, their relocation, and the symbols:
 bytes, a type and a value each. 2.11BSD has symbols of eight bytes, with names in a table after
 them. A long of the PDP-11 has its high word first."""
 import struct
-from dataclasses import dataclass
 from typing import Iterator
 
 from .errors import ExploreError
 from .in_words import counted
 from .symbol_files import NAME_OF_FILE, Symbol
+from .values import dataclass
 
 HEAD = struct.Struct("<8H")
 ENTRY, ENTRY_OF_211 = struct.Struct("<8sHH"), struct.Struct("<HHBBH")

@@ -2,7 +2,6 @@
 from __future__ import annotations
 
 import functools
-import inspect
 import os
 from pathlib import Path
 from typing import TYPE_CHECKING, Any, Callable, Optional, SupportsIndex, TypeVar, Union
@@ -11,6 +10,8 @@ from .options import FILES, NUMBERS, Options, options_of_words, words_of_options
 from .questions import Question, decimal, octal
 
 if TYPE_CHECKING:
+    from inspect import Signature
+
     from typing_extensions import Concatenate, ParamSpec
 
     from .machine import Machine
@@ -24,6 +25,25 @@ Key = Union[SupportsIndex, str, bytes]
 LARGEST_KEY = 0o377
 
 
+class Shown:
+    """What `help` shows of a method that asks: its own arguments, and its answer in place of a
+    question. The signature is made when it is asked for."""
+
+    def __init__(self, of: Callable[..., Any]):
+        self.of = of
+
+    @property
+    def __signature__(self) -> Signature:
+        from inspect import Parameter, signature  # which takes a while to read
+
+        found = signature(self.of)
+        itself = Parameter("self", Parameter.POSITIONAL_ONLY)
+        return found.replace(
+            parameters=[itself, *found.parameters.values()],
+            return_annotation=found.return_annotation[len("Question[") : -1],
+        )
+
+
 def asks(
     of: Callable[Asked, Question[Answer]]
 ) -> Callable[Concatenate[Machine, Asked], Answer]:
@@ -33,14 +53,7 @@ def asks(
     def ask(machine: Machine, /, *words: Asked.args, **named: Asked.kwargs) -> Answer:
         return machine.ask(of(*words, **named))
 
-    # what `help` shows: the method's own arguments, and its answer in place of a question
-    signature = inspect.signature(of)
-    itself = inspect.Parameter("self", inspect.Parameter.POSITIONAL_ONLY)
-    shown = signature.replace(
-        parameters=[itself, *signature.parameters.values()],
-        return_annotation=signature.return_annotation[len("Question[") : -1],
-    )
-    setattr(ask, "__signature__", shown)
+    setattr(ask, "__wrapped__", Shown(of))
     return ask
 
 

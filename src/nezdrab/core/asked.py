@@ -1,11 +1,11 @@
 """What was asked of a machine: up to which turn, and how often it had to go back. A question about
 a later turn goes on from the one before it; one about an earlier turn begins again at a state that
 the program kept, which may be many turns before. So a search asks upwards, or by halving."""
-from dataclasses import dataclass
 from typing import Iterable, Optional
 
 from . import sessions
 from .language import is_decimal
+from .values import dataclass
 
 # Not `when F`. `fades` leaves the machine wherever it was found out.
 SEARCHES = [it for it in sessions.SEARCHES if " N" in it.form and "EDIT" not in it.form]

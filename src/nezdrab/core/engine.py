@@ -1,7 +1,6 @@
 """The machine that the program runs, with its edits."""
 import os
 from contextlib import contextmanager, suppress
-from dataclasses import dataclass, field, replace
 from pathlib import Path
 from typing import Iterator, Optional, Sequence, TypeVar
 
@@ -17,6 +16,7 @@ from .program import Program, TimedOut
 from .replies import SPACES, Devices, LastWrite, Mode, Pages, Registers, Turn, TurnAccesses
 from .replies import accesses_of, listed, text_of, turns_of, words_of
 from .sessions import first_word
+from .values import dataclass, field, replace
 
 LAST_TURN = 1_000_000_000
 MOST_TURNS_OF_A_TRAIL = 64

@@ -2,15 +2,14 @@
 import fcntl
 import os
 import stat
-import tempfile
 import time
 from contextlib import suppress
-from dataclasses import dataclass, field
 from io import FileIO
 from pathlib import Path
 from typing import Iterable, Optional
 
 from .errors import ExploreError
+from .values import dataclass, field
 
 LOCK_SECONDS = 1.0
 # A file as it was left, to tell whether it is still that file.
@@ -41,6 +40,8 @@ def usual_mode() -> int:
 
 def replaced(target: Path, found: Optional[os.stat_result], parts: Iterable[bytes]) -> Stamp:
     """Writes the file beside its place, and then puts it there. Owner and mode stay."""
+    import tempfile  # which takes a while to read
+
     handle, beside = tempfile.mkstemp(prefix=".explore-", dir=target.parent)
     try:
         with open(handle, "wb") as file:

@@ -1,11 +1,11 @@
 """What questions of the package give that explore has no type for."""
 from __future__ import annotations
 
-from dataclasses import dataclass
 from typing import Callable, Generic, Iterator, Optional, TypeVar
 
 from .errors import ExploreError
 from .replies import hash_of
+from .values import dataclass
 
 Item = TypeVar("Item")
 

@@ -1,10 +1,10 @@
 """What a file is, by its first bytes: what explore loads, and what it knows and can't use."""
 import struct
-from dataclasses import dataclass
 from pathlib import Path
 from typing import Optional
 
 from .errors import ExploreError
+from .values import dataclass
 
 MOST_BYTES = 4_194_304
 LEADER = b"\0\377"  # blank tape, and tape with all holes punched

@@ -1,12 +1,12 @@
 """The forms of the session language, and which word of a refused line is the wrong one."""
 import re
-from dataclasses import dataclass
 from typing import Optional
 
 from . import sessions
 from .past import LINE_DEVICES, PATCHES
 from .program import CONTROL
 from .sessions import words_of
+from .values import dataclass
 from .visible import visible
 
 OCTAL, DECIMAL = frozenset("01234567"), frozenset("0123456789")

@@ -170,7 +170,7 @@ class Machine:
         if re.fullmatch(ADDRESS, address) is None:
             raise ExploreError(f"{address!r} is no address: a symbol or an octal number, +n or -n")
         name = re.split("[+-]", address)[0]
-        if not OCTAL.fullmatch(name) and not self.symbols.named(name, mode):
+        if not re.fullmatch(OCTAL, name) and not self.symbols.named(name, mode):
             raise ExploreError(f"there is no symbol {name!r}; Machine.read_symbols takes a file's")
         return self.symbols.number(address, mode)
 

@@ -4,13 +4,13 @@ import os
 import re
 import shlex
 import stat
-from dataclasses import dataclass
 from pathlib import Path
 from typing import Iterable, Iterator, Optional
 
 from .errors import ExploreError
 from .hardware import DRIVE_WORDS
 from .in_words import counted
+from .values import dataclass
 
 UNIT_BYTES, MOST_UNITS = 0o20000, 31  # of core
 RK05_BYTES, TAPE_BYTES = 2 * DRIVE_WORDS, 1_048_576

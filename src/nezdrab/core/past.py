@@ -1,11 +1,11 @@
 """The past as the program tells it, in its replies to `setup`, `events` and `patches`."""
 from collections import defaultdict
-from dataclasses import dataclass, field
 from typing import NamedTuple, Optional, Sequence
 
 from .hardware import DELAYS
 from .replies import hash_of
 from .sessions import words_of
+from .values import dataclass, field
 
 LINE_DEVICES = frozenset(DELAYS)
 MOST_EVENTS = 65_536  # of a script

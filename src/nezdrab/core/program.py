@@ -3,13 +3,13 @@ import os
 import re
 import select
 import time
-from dataclasses import dataclass, field
 from pathlib import Path
 from typing import Callable, Optional, Sequence
 
 from . import sessions
 from .children import Child, ProgramEnded
 from .errors import ExploreError
+from .values import dataclass, field
 
 CONTROL = re.compile(r"[\0-\x08\n-\x1f\x7f]")  # all but the tab, which separates words
 PIPE_BYTES, LONGEST_SHOWN = 65_536, 60

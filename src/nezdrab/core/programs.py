@@ -1,6 +1,5 @@
 """Where the programs are that the sources of a clone give, or that a package was made with."""
 import os
-import shutil
 import subprocess
 import sys
 from pathlib import Path
@@ -42,11 +41,14 @@ def found_program(name: str) -> str:
     """The path of the program of this name: the one beside the package; in a clone the one that its
     sources give, which is built first if it must be; `nezdrab-NAME` on PATH; or the one beside the
     package that node runs. An error if there is none."""
-    root, path = clone(), shutil.which(f"nezdrab-{name}")
+    root = clone()
     if os.access(BESIDE / name, os.X_OK):
         return str(BESIDE / name)
     if root is not None:
         return program_of_clone(root, name)
+    from shutil import which  # which takes a while to read
+
+    path = which(f"nezdrab-{name}")
     if path is not None:
         return os.path.abspath(path)
     by_node = BESIDE / "tools" / "by-node" / name
@@ -54,7 +56,7 @@ def found_program(name: str) -> str:
         raise ExploreError(
             f"there is no program {name}: {BESIDE} hasn't got it, and no nezdrab-{name} is on PATH"
         )
-    if shutil.which("node") is None:
+    if which("node") is None:
         raise ExploreError(f"the program {name} is run by node, 16 or later, which isn't on PATH")
     return str(by_node)
 

@@ -15,7 +15,6 @@ from __future__ import annotations
 
 import operator
 from array import array
-from dataclasses import dataclass
 from typing import Any, Callable, Generic, Optional, Sequence, SupportsIndex, TypeVar, Union
 
 from . import sessions
@@ -26,6 +25,7 @@ from .language import is_edit
 from .past import Event, Setup
 from .replies import Devices, LastWrite, Mode, Pages, Registers, Turn, TurnAccesses, WordRead
 from .replies import accesses_of, listed, text_of, turns_of, words_of
+from .values import dataclass
 
 Answer = TypeVar("Answer")
 Address = Union[int, SupportsIndex, str]

@@ -1,10 +1,10 @@
 """The replies of the session language as types with names."""
 import codecs
-from dataclasses import dataclass
 from enum import Enum
 from typing import Optional
 
 from .hardware import INTERRUPTS, SECTORS, SURFACES
+from .values import dataclass
 
 
 class Mode(Enum):

@@ -1,5 +1,4 @@
 """A session as a file: its edits, as a machine takes them."""
-from dataclasses import dataclass
 from pathlib import Path
 from typing import Iterator
 
@@ -7,6 +6,7 @@ from . import sessions
 from .engine import Machine, in_parts, is_refused
 from .errors import ExploreError
 from .language import explanation
+from .values import dataclass
 
 LINES_AT_ONCE, LONGEST_SHOWN = 10_000, 200
 

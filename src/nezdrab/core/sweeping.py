@@ -6,7 +6,6 @@ import queue
 from collections import deque
 from concurrent.futures import Future, ThreadPoolExecutor
 from contextlib import contextmanager
-from dataclasses import dataclass, field
 from itertools import chain, islice
 from typing import Callable, Iterable, Iterator, Optional, Sequence, SupportsIndex, TypeVar, Union
 
@@ -15,6 +14,7 @@ from .engine import SHORT_SENT_AHEAD, Machine as Engine, Refused, is_refused
 from .errors import ExploreError
 from .language import explanation
 from .past import Event
+from .values import dataclass, field
 
 Answer = TypeVar("Answer")
 TURNS_OF_A_PART = 32  # whose lines are sent together

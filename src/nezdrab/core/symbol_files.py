@@ -1,10 +1,10 @@
 """Names of addresses in files of text: lists, what nm writes, listings of MACRO-11, and the maps of
 the linkers of RT-11 and RSX-11."""
 import re
-from dataclasses import dataclass, replace
 from typing import Callable, Iterator, Optional, Sequence
 
 from .in_words import counted
+from .values import dataclass, replace
 
 LARGEST = 0o177777
 NAME = r"[A-Za-z_.$~%?@][^\s=:;,()\[\]<>]*"

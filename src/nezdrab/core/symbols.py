@@ -1,7 +1,6 @@
 """Names of addresses: beside an address, and in its place."""
 import bisect
 import re
-from dataclasses import dataclass, field
 from typing import TYPE_CHECKING, Iterable, Optional, Sequence
 
 from . import sessions
@@ -10,6 +9,7 @@ from .errors import ExploreError
 from .language import FADING, FORMS, form_of
 from .replies import Mode
 from .sessions import BEFORE_ADDRESS, words_of
+from .values import dataclass, field
 
 if TYPE_CHECKING:
     from .symbol_files import Symbol
@@ -18,7 +18,7 @@ FARTHEST = 0o10000
 OFFSETS = r"([+-][0-7]{1,10})*"
 # What stands for an address: an octal number, or a symbol, with octal numbers after + and -.
 ADDRESS = rf"([0-7]{{1,10}}|[A-Za-z_.$~%?@][^\s=:+-]*){OFFSETS}"
-OCTAL = re.compile(r"[0-7]+")
+OCTAL = "[0-7]+"
 # The letters that stand for addresses in the form of a line, by its first word, if not A alone.
 ADDRESSES = {"find": ("A", "B")}
 MODES = (Mode.KERNEL.value, Mode.USER.value)
@@ -82,7 +82,7 @@ class Symbols:
     def number(self, text: str, mode: Optional[Mode] = None) -> int:
         """The number that a text of the form ADDRESS is."""
         first, *offsets = re.split(r"(?=[+-])", text)
-        if OCTAL.fullmatch(first):
+        if re.fullmatch(OCTAL, first):
             number = int(first, 8)
         else:
             found = self.named(first, mode)
@@ -103,7 +103,7 @@ class Symbols:
         first, *offsets = re.split(r"(?=[+-])", word)
         if re.fullmatch(ADDRESS, word) is None:
             return False
-        return bool(offsets) if OCTAL.fullmatch(first) else bool(self.named(first, None))
+        return bool(offsets) if re.fullmatch(OCTAL, first) else bool(self.named(first, None))
 
     def in_octal(self, word: str, mode: Optional[Mode] = None) -> str:
         """The word, or the number that it names."""

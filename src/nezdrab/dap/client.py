@@ -1,11 +1,11 @@
 """An editor as it is connected: what it was told, what it may still name, and what it debugs."""
 from contextlib import suppress
-from dataclasses import dataclass, field
 from typing import Any, Callable, Optional
 
 from ..analysis.explorer import Explorer
 from ..core.errors import ExploreError
 from ..core.interrupts import INTERRUPTS
+from ..core.values import dataclass, field
 from ..shell.output import Unwritable
 from .evaluate import Console
 from .frames import Frame, KnownCalls, frames

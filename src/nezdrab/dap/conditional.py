@@ -1,11 +1,11 @@
 """Breakpoints with conditions that no single search has: a write after which one holds, and an
 interrupt or a trap before which one holds."""
-from dataclasses import dataclass
 from typing import Optional
 
 from ..analysis.breakpoints import Breakpoint
 from ..analysis.finder import Finder
 from ..core.engine import LAST_TURN, Machine
+from ..core.values import dataclass
 
 
 def holds_before(machine: Machine, turn: int, condition: str) -> bool:

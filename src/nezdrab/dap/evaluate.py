@@ -1,6 +1,5 @@
 """What is typed in an editor: lines of explore in the debug console, and expressions."""
 import re
-from dataclasses import dataclass
 from typing import Callable, Container, Iterable, Iterator, Optional
 
 from ..analysis.explorer import Explorer
@@ -10,6 +9,7 @@ from ..core import sessions
 from ..core.errors import ExploreError, LineRefused
 from ..core.language import FORMS, LISTS, SEARCHES
 from ..core.replies import SPACES, Mode
+from ..core.values import dataclass
 from ..shell.commands import COMMANDS, ENDS
 from ..shell.completion import HELP, completions
 from ..shell.display import check_only_shows, lines_at

@@ -1,8 +1,8 @@
 """The fields of a request, each with the type that it must have."""
-from dataclasses import dataclass
 from typing import Any, Iterator, Optional
 
 from ..core.errors import ExploreError
+from ..core.values import dataclass
 from .wire import Object
 
 KINDS = {str: "a text", int: "a whole number", bool: "true or false", list: "a list"}

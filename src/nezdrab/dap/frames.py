@@ -1,10 +1,10 @@
 """The stack: the routine of the current turn, and each that called, as `calls` finds them."""
-from dataclasses import dataclass, field
 from typing import Optional
 
 from ..analysis.explorer import Explorer
 from ..analysis.levels import Call, Level, Stacks
 from ..core.replies import Mode
+from ..core.values import dataclass, field
 from .memory import reference
 from .sources import Sources, source
 from .wire import Object

@@ -2,7 +2,6 @@
 import argparse
 import os
 import shlex
-from dataclasses import dataclass
 from pathlib import Path
 from typing import Iterator, Optional
 
@@ -14,6 +13,7 @@ from ..core.errors import ExploreError
 from ..core.options import FILES, NUMBERS, check_session, option_lines, words_of_options
 from ..core.programs import found_program
 from ..core.session_file import refused_lines
+from ..core.values import dataclass
 from ..shell.command_line import check_options, options_of
 from ..shell.commands import COMMANDS
 from ..shell.journal import OF_SESSION, Journal

@@ -2,13 +2,13 @@
 address, and above its 24 bits 0 for one of core, 1 for one of kernel mode, 3 for one of user
 mode."""
 import base64
-from dataclasses import dataclass
 from typing import Iterator, Optional
 
 from ..analysis.explorer import Explorer
 from ..analysis.listing import INSTRUCTION_WORDS, PHYSICAL, VIRTUAL, Listed, instruction_of
 from ..core.errors import ExploreError
 from ..core.replies import Mode
+from ..core.values import dataclass
 from .fields import Fields
 from .sources import Place, Sources, source
 from .wire import Object

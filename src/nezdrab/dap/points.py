@@ -1,7 +1,6 @@
 """Breakpoints of an editor, as breakpoints of explore: `breakpoints` in the console lists them."""
 import os
 import re
-from dataclasses import dataclass, field
 from typing import Iterator
 
 from ..analysis.breaking import condition_sought
@@ -10,6 +9,7 @@ from ..analysis.explorer import Explorer
 from ..core.errors import ExploreError
 from ..core.hardware import INTERRUPTS
 from ..core.replies import SPACES
+from ..core.values import dataclass, field
 from ..shell.commands import COMMANDS
 from .conditional import ConditionalTurn, ConditionalWrite
 from .fields import Fields

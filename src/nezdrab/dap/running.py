@@ -1,6 +1,5 @@
 """Going on and back: each of these is done part by part, so that a request between two parts is
 heard. A stop is before a turn, as all that is shown."""
-from dataclasses import dataclass, field
 from typing import Callable, Generator, Optional
 
 from ..analysis.breaking import reached_line
@@ -11,6 +10,7 @@ from ..analysis.finder import growing_parts
 from ..analysis.levels import Call, Return, Stacks, call_in
 from ..core.engine import LAST_TURN
 from ..core.errors import ExploreError
+from ..core.values import dataclass, field
 from .frames import Frame
 
 # The first of some turns at which something is reached, such as the end of a routine.

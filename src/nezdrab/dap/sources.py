@@ -1,12 +1,12 @@
 """Listings as sources: at which line of a file the words of an address stand, and back."""
 import os
-from dataclasses import dataclass, field
 from typing import Iterator, NamedTuple, Optional
 
 from ..analysis.listing import VIRTUAL
 from ..core.errors import ExploreError
 from ..core.replies import Mode
 from ..core.symbol_files import SOURCE, TABLE
+from ..core.values import dataclass, field
 from .fields import Fields
 from .wire import Object
 

@@ -1,5 +1,4 @@
 """What a frame shows: registers, the words of its stack, devices, mapping, and what is printed."""
-from dataclasses import dataclass
 from typing import Callable, Iterator, Optional
 
 from ..analysis.explorer import Explorer
@@ -8,6 +7,7 @@ from ..analysis.listing import VIRTUAL, Listed
 from ..analysis.screen import lines_of
 from ..core.errors import ExploreError
 from ..core.replies import SPACES, Mode
+from ..core.values import dataclass
 from .memory import reference
 from .wire import Object
 

@@ -1,6 +1,5 @@
 """A range of turns by routines, lines and calls: for callgrind's viewers, and as stacks."""
 from collections import Counter
-from dataclasses import dataclass, field
 from typing import Iterator, Optional, Sequence
 
 from ..analysis.call_tree import MOST_LEVELS, CallTree, Node
@@ -9,6 +8,7 @@ from ..analysis.explorer import Explorer
 from ..analysis.profile import counted_profile
 from ..analysis.routines import Label
 from ..core.in_words import counted, span
+from ..core.values import dataclass, field
 from .covered import Listing
 
 UNKNOWN = "???"  # what callgrind's viewers know as a file that isn't known

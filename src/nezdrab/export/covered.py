@@ -1,6 +1,5 @@
 """Which lines of a listing ran, and how often: `covered`."""
 import re
-from dataclasses import dataclass
 from pathlib import Path
 from typing import Iterator, Optional, Sequence
 
@@ -16,6 +15,7 @@ from ..core.in_words import counted, span
 from ..core.kinds import content
 from ..core.replies import Mode
 from ..core.symbol_files import SOURCE
+from ..core.values import dataclass
 
 NEVER, NO_CODE = "#####", "-"
 NAME = re.compile(r"[A-Za-z0-9.$_]+")

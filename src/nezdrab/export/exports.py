@@ -1,7 +1,6 @@
 """What `export` writes of a range of turns, by the ending of the file's name."""
 import re
 import shlex
-from dataclasses import dataclass
 from pathlib import Path
 from typing import Callable, Iterable, Iterator, Sequence
 
@@ -17,6 +16,7 @@ from ..core.files import OUTPUT, write_whole
 from ..core.in_words import counted, span
 from ..core.language import MOST_DIGITS
 from ..core.replies import Mode
+from ..core.values import dataclass
 from .callgrind import Callgrind, costs_of, folded_lines, remarks, stacks_of
 from .covered import Listing
 from .lcov import counted_lines, ran_of, tracefile

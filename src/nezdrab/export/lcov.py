@@ -1,10 +1,10 @@
 """How often the lines of listings ran, as lcov's genhtml and editors read it."""
-from dataclasses import dataclass, field
 from pathlib import Path
 from typing import Iterator, Sequence
 
 from ..analysis.explorer import Explorer
 from ..analysis.routines import in_one_word
+from ..core.values import dataclass, field
 from .covered import Coverage, Listing
 
 

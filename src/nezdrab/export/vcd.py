@@ -1,5 +1,4 @@
 """A range of turns as a value change dump, the file of GTKWave and other viewers of waves."""
-from dataclasses import dataclass
 from typing import Iterable, Iterator, Optional, Sequence
 
 from ..analysis.batches import KSP, PC, PLACE, PS, STATE, USP, Batch, batches_of
@@ -10,6 +9,7 @@ from ..analysis.routines import Labels
 from ..core.engine import Machine
 from ..core.in_words import span
 from ..core.replies import DISK_READY, DiskFunction, Mode, Registers, Turn
+from ..core.values import dataclass
 
 # The registers that are shown, each with its part of a reply of `regs`.
 REGISTERS = {"PC": PC, "PS": PS, "KSP": KSP, "USP": USP}

@@ -3,11 +3,11 @@ a checksum that makes the sum of all bytes of the block 0, modulo 256. Count and
 bytes each, the low one first, and the count is that of all bytes before the checksum. A block
 without data, so with the count 6, ends the tape: its address is where the program begins, or odd if
 the loader is to halt. Between blocks there is leader, bytes 000, which counts for nothing."""
-from dataclasses import dataclass
 from typing import Optional
 
 from ..core.errors import ExploreError
 from ..core.kinds import LEADER
+from ..core.values import dataclass
 
 HEAD_BYTES = 6
 IO_PAGE = 0o160000

@@ -8,7 +8,7 @@ from ..core.errors import ExploreError
 from ..core.language import FORMS, LISTS, SEARCHES
 from .commands import COMMANDS, ENDS
 
-NAME = re.compile(r"[A-Za-z][A-Za-z0-9_.-]{0,63}")
+NAME = r"[A-Za-z][A-Za-z0-9_.-]{0,63}"
 
 
 def is_word_of_explore(word: str) -> bool:
@@ -29,7 +29,7 @@ def define(explorer: Explorer, arguments: Arguments) -> Iterator[str]:
     until explore ends: a file of them is read by `do FILE`. `undo` takes back a line as it was
     typed."""
     name, line = arguments.text("name"), arguments.text("line")
-    if NAME.fullmatch(name) is None:
+    if re.fullmatch(NAME, name) is None:
         raise ExploreError(f"'{name}' is no NAME: a letter, then letters, digits, _ . -, up to 64")
     if is_word_of_explore(name):
         raise ExploreError(f"{name} is a command already; help {name} says what it does")

@@ -27,7 +27,7 @@ def lines_at(explorer: Explorer, line: str) -> Iterator[str]:
     """What a line shows. The current turn stays."""
     turn = explorer.turn
     try:
-        named = PLACE.sub(lambda it: str(turn) if it[1] == TURN else it[0], line)
+        named = re.sub(PLACE, lambda it: str(turn) if it[1] == TURN else it[0], line)
         yield from explorer.interpreter.lines(named)
     finally:
         explorer.turn = turn

@@ -83,7 +83,7 @@ FOREIGN = {
     "h": "`help` lists the topics, `help WORD` says what one does",
 }
 # `x/20i A` of gdb: how many, and the letters of the format.
-EXAMINED = re.compile(r"(?:x|p|print|e|ex|examine)/([0-9]{0,4})([a-z]{0,2})")
+EXAMINED = r"(?:x|p|print|e|ex|examine)/([0-9]{0,4})([a-z]{0,2})"
 FORMATS = {"i": "instructions", "b": "bytes", "c": "text", "d": "words", "u": "words"}
 OF_BYTES = ("bytes", "text")
 VIRTUAL = "`dump user A C` takes an address of a program, as `dump kernel A C` does"
@@ -92,7 +92,7 @@ VIRTUAL = "`dump user A C` takes an address of a program, as `dump kernel A C` d
 def examined(word: str, rest: str) -> str:
     """The dump that a word such as `x/20i` asks for, or an empty text. gdb counts bytes, a dump
     words."""
-    found = EXAMINED.fullmatch(word)
+    found = re.fullmatch(EXAMINED, word)
     if found is None:
         return ""
     count = max(1, int(found[1] or 1))

@@ -5,7 +5,6 @@ import shlex
 import threading
 import time
 from contextlib import contextmanager, suppress
-from dataclasses import dataclass, field
 from pathlib import Path
 from typing import Iterator, Optional, Sequence
 
@@ -14,6 +13,7 @@ from ..core.files import is_locked_here
 from ..core.in_words import counted
 from ..core.language import is_edit
 from ..core.options import LONGEST_PART, MARK, Options, option_text, options_of_words
+from ..core.values import dataclass, field
 
 ENDING = ".journal"
 MOST_KEPT = 30

@@ -1,5 +1,4 @@
 """What people bring into core, and names for it: `load`, `symbols`."""
-from dataclasses import dataclass, field
 from pathlib import Path
 from typing import Callable, Iterable, Iterator, Optional, Sequence
 
@@ -15,6 +14,7 @@ from ..core.names import names_of
 from ..core.options import FILES, RK05_BYTES, UNIT_BYTES, Options
 from ..core.replies import Mode
 from ..core.symbol_files import Symbol
+from ..core.values import dataclass, field
 from .absolute_tape import tape_of
 
 LAST_WORD = 0o177776

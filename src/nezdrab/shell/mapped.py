@@ -18,7 +18,7 @@ MAPPED_HELP = (
     "turns it may be another one. A line that takes a word of core from 160000 to 177777 says so, "
     "if the mode of the current turn, or kernel mode, has the I/O page there."
 )
-WORD_LINE = re.compile(
+WORD_LINE = (
     r"(?P<before>((?P<bare>mem[ \t]+[0-9]{1,10}|reads([ \t]+[0-9]{1,10}){2}|(un)?core|list|dump)"
     r"|last[ \t]+(?P<last>[0-9]{1,10})|writes[ \t]+(?P<writes>[0-9]{1,10})[ \t]+[0-9]{1,10}"
     r"|next|changes|watch|reads|rwatch|(?P<why>why)([ \t]+core)?|first[ \t]+core)[ \t]+)"
@@ -42,7 +42,7 @@ def in_core(explorer: Explorer, line: str) -> Optional[tuple[str, str]]:
     """For a line with `kernel A` or `user A`: the line with an address of core, and a line that
     says which. An address that can't be read is an error. For a line with an address of core that
     programs have in the I/O page: the line, and that it isn't about a register."""
-    found = WORD_LINE.fullmatch(line.strip(" \t"))
+    found = re.fullmatch(WORD_LINE, line.strip(" \t"))
     if found is None or found["bare"] and found["mode"]:
         return None
     if not found["mode"]:

@@ -5,7 +5,6 @@ import io
 import os
 import select
 import sys
-import traceback
 from pathlib import Path
 from typing import Optional
 
@@ -157,6 +156,8 @@ def leave_streams() -> None:
 
 def fault_in_words(error: BaseException) -> str:
     """A fault of explore itself, in one line."""
+    import traceback  # which takes a while to read
+
     place = traceback.extract_tb(error.__traceback__)[-1]
     said = " ".join(str(error).split())
     where = f"{os.path.basename(place.filename)}:{place.lineno}"

@@ -1,7 +1,7 @@
 """How many turns of the machine go by in a time, and how many are run at once."""
-from dataclasses import dataclass
 
 from ..core.engine import LAST_TURN
+from ..core.values import dataclass
 
 LATE_SECONDS = 0.25
 FIRST_TURNS, LEAST_TURNS, MOST_TURNS = 20_000, 20_000, 2_000_000

@@ -6,11 +6,11 @@ import sys
 import termios
 import textwrap
 import tty
-from dataclasses import dataclass
 from typing import Iterable, Iterator
 
 from ..analysis.at_work import AtWork
 from ..core.interrupts import INTERRUPTS, typed_line
+from ..core.values import dataclass
 from .output import put
 
 WIDTH, LEAST_WIDTH, MOST_WIDTH = 80, 20, 100

@@ -2,7 +2,6 @@
 import os
 import re
 import shlex
-from dataclasses import dataclass, field
 from pathlib import Path
 from typing import Callable, Iterator, Optional
 
@@ -13,6 +12,7 @@ from ..core.errors import ExploreError
 from ..core.in_words import counted
 from ..core.kinds import check_known, content
 from ..core.options import MOST_UNITS, fault_of_option
+from ..core.values import dataclass, field
 from .load import counted_patches, loaded, patches_of
 from .simh_lines import Line, Lines, NotHere
 

@@ -1,7 +1,8 @@
 """The commands of SIMH that say what to do while the machine runs, as lines of explore."""
 import re
-from dataclasses import dataclass, field
 from typing import Iterator
+
+from ..core.values import dataclass, field
 
 STRING = r""""(?:[^"\\]|\\.)*"|'(?:[^'\\]|\\.)*'"""
 SEND = re.compile(rf"\w+\s+(?P<text>{STRING})")

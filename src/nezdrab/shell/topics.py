@@ -1,9 +1,9 @@
 """Help by topic: which lines belong together."""
-from dataclasses import dataclass
 from typing import Iterable, Iterator
 
 from ..core import sessions
 from ..core.language import SUMMARIES, form_of
+from ..core.values import dataclass
 from .commands import COMMANDS
 
 

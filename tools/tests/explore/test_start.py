@@ -67,7 +67,8 @@ class Commands(Case):
         named = {it: f"nezdrab.{name}" for it, name in COMMANDS.modules.items()}
         self.assertEqual(modules, named)
         for it in COMMANDS.values():
-            self.assertEqual(it.pattern.pattern, it.source)
+            parts = it.addresses | it.files | it.texts
+            self.assertEqual(parts - it.pattern.groupindex.keys(), set())
 
     def test_none_is_read_at_the_start(self) -> None:
         """None but those that the prompt itself needs; and then the one that is typed."""

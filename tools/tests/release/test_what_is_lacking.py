@@ -110,11 +110,11 @@ class Lacking(Tree):
 
     def test_python_is_older_or_not_whole(self) -> None:
         needs = "This needs Debian's python3, 3.9 or later: this one "
-        self.write("../modules/dataclasses.py", 'raise ImportError(name="dataclasses")\n')
+        self.write("../modules/shutil.py", 'raise ImportError(name="shutil")\n')
         for tool in tools_in_python():
             with mock.patch.dict(os.environ, {"PYTHONPATH": str(self.folder / "modules")}):
                 self.assertEqual(self.run_in(tool, "--help").returncode, 1)
-            wanted = f"{needs}has no module dataclasses, as python3-minimal.\n"
+            wanted = f"{needs}has no module shutil, as python3-minimal.\n"
             self.assertEqual(self.said, wanted, tool)
         self.replace("python3", OLDER_PYTHON)
         for tool in tools_in_python():
