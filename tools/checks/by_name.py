@@ -29,7 +29,7 @@ CHECKS = {
     "help": Check("help", [], "--help shows the lines that the tools know"),
     "streams": Check("streams", [], "streams that fail or come in parts, the largest images"),
     "documents": Check("docs", [], "what README and docs/ show, their links and widths"),
-    "python": Check("python", [], "the Python of tools/ and src/ by mypy and ruff"),
+    "python": Check("python", [], "the Python of tools/ and src/ by mypy and ruff; rooms"),
     "names": Check("names", [], "no type or definition has the name of another"),
     "rules": Check("rules", [], "each rule of MACHINE has a definition and a session"),
     "sessions": Check("stored", [], "the stored sessions on pdp11"),

@@ -21,13 +21,16 @@ else:
         def __get__(self, value, cls):
             import dataclasses
 
-            types = [(it, cls.__annotations__[it]) for it in cls.NAMES]
-            return dataclasses.make_dataclass(cls.__name__, types).__dataclass_fields__
+            types = {}
+            for it in reversed(cls.__mro__):
+                types.update(getattr(it, "__annotations__", {}))
+            fields = [(it, types[it]) for it in cls.NAMES]
+            return dataclasses.make_dataclass(cls.__name__, fields).__dataclass_fields__
 
     def field(*, default_factory):
         return Factory(default_factory)
 
-    def replace(value, **changes):
+    def replace(value, /, **changes):
         """The value with other values of these fields."""
         return type(value)(**{**{it: getattr(value, it) for it in type(value).NAMES}, **changes})
 
@@ -45,7 +48,7 @@ else:
         fields.update(named)
         return {it: fields[it] if it in fields else default_of(cls, it) for it in cls.NAMES}
 
-    def begin(self, *given, **named):
+    def begin(self, /, *given, **named):
         cls = type(self)
         if named or len(given) != len(cls.NAMES):
             self.__dict__.update(filled(cls, given, named))
@@ -72,12 +75,14 @@ else:
 
     def made(cls, is_frozen):
         """The class with what its fields give. What it has of its own stays."""
-        own, types = vars(cls), cls.__annotations__
-        cls.NAMES = tuple(it for it in types if "ClassVar" not in str(types[it]))
-        cls.DEFAULTS = {it: own[it] for it in cls.NAMES if it in own}
-        for name, default in cls.DEFAULTS.items():
-            if isinstance(default, Factory):
-                delattr(cls, name)
+        own, types = dict(vars(cls)), cls.__annotations__
+        names = [it for it in types if "ClassVar" not in str(types[it])]
+        defaults = {it: own[it] for it in names if it in own}
+        for name in [it for it in defaults if isinstance(defaults[it], Factory)]:
+            delattr(cls, name)
+        # after those of the class that this one is a kind of
+        cls.NAMES = tuple(dict.fromkeys([*getattr(cls, "NAMES", ()), *names]))
+        cls.DEFAULTS = {**getattr(cls, "DEFAULTS", {}), **defaults}
         cls.HAS_MORE = hasattr(cls, "__post_init__")
         cls.__match_args__, cls.__dataclass_fields__ = cls.NAMES, Fields()
         cls.__hash__ = own.get("__hash__") or (hash_of_parts if is_frozen else None)

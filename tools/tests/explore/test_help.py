@@ -94,7 +94,7 @@ class AtPrompt(AtTerminal):
         shown = ""
         for _ in range(4):
             part = self.wait_for(pager.MORE.encode())
-            part = re.sub(r"\rhelp: at work, [0-9]+ s \r *\r", "", part)  # where it takes long
+            part = re.sub(r"(\rhelp: at work, [0-9]+ s )+\r *\r", "", part)  # where it takes long
             lines = part.replace("\r", "").strip("\n").split("\n")
             self.assertLessEqual(len(lines), ROWS - 1)
             self.assertLessEqual(max(map(len, lines)), COLUMNS)

@@ -26,6 +26,18 @@ class Log:
         self.twice = 2 * self.count
 
 @dataclass(frozen=True)
+class Named(Place):
+    kind: str = "a"
+    name: str = "other"
+
+@dataclass
+class Odd:
+    value: int
+    cls: int = 1
+    given: int = 2
+    named: int = 3
+
+@dataclass(frozen=True)
 class Own:
     words: dict[str, int]
 
@@ -57,6 +69,9 @@ CALLS = [
     *('hash(Own({"a": 1}))', 'Own({"a": 1}) == Own({"a": 1})', "asdict(Log(1, [2]))"),
     *('astuple(Place(1))', 'replace(Place(1), name="b")', 'replace(Place(1), other="b")'),
     *('[it.name for it in fields(Log)]', "is_dataclass(Own)", 'copy.copy(Place(1, "c"))'),
+    *("Named(1)", 'Named(1, "b", "c")', 'Named(1, kind="c")', "Named(1) == Place(1)", "Named()"),
+    *("[it.name for it in fields(Named)]", "asdict(Named(2))", 'setattr(Named(1), "kind", "x")'),
+    *("Odd(1)", "Odd(value=1, cls=2, given=3, named=4)", "Odd(1, named=5)", "Odd(1, 2, value=3)"),
     *('copy.deepcopy(Log(1, ["a"])).lines', "copy.deepcopy(Place(4)) == Place(4)"),
 ]
 
@@ -79,6 +94,8 @@ class Values(Case):
 
     def test_replaced(self) -> None:
         self.assertEqual(values.replace(Place(1), name="b"), Place(1, "b"))
+        odd = OURS["Odd"]
+        self.assertEqual(values.replace(odd(1), value=4, cls=5), odd(4, 5))
         with self.assertRaises(TypeError):
             values.replace(Place(1), other="b")
 
