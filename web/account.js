@@ -1,6 +1,6 @@
 // The steps of a value as lines, like an account book: what it is made of stands below it, and the
 // part with the most behind it goes on at the same indent. The lines are those of
-// src/nezdrab/explore/account.py.
+// src/nezdrab/analysis/account.py.
 
 import {
   REST, bitOfCode, isCode, isCore, isOfDrive, isRegister, nameOfCell, wordOf, wordOfDrive,

@@ -1,6 +1,6 @@
 // The cells that hold data, each a number: a byte of core or of a register on the bus by its
 // physical address, a byte of a register of the processor, a condition code, the rest of PS, and a
-// byte of a drive. The numbers are those of src/nezdrab/explore/cells.py.
+// byte of a drive. The numbers are those of src/nezdrab/analysis/cells.py.
 
 import { CYLINDERS, SECTORS, SECTOR_WORDS, SURFACES } from "./hardware.js";
 import { nameOfWord } from "./names.js";

@@ -1,6 +1,6 @@
 // The calls that a turn stands in: the words of a stack are asked which turn wrote them, and each
 // such turn whether it was a JSR, an interrupt or a trap that pushed them. The rules are those of
-// src/nezdrab/explore/levels.py.
+// src/nezdrab/analysis/levels.py.
 
 import { pointerOf } from "./operands.js";
 import { INTERRUPTS } from "./hardware.js";

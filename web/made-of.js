@@ -1,5 +1,5 @@
-// Made of src/nezdrab/explore/made_of.py by tools/web --tables: change that file, and make this one
-// again.
+// Made of src/nezdrab/analysis/made_of.py by tools/web --tables: change that file, and make this
+// one again.
 
 /**
  * What the results of an instruction are made of: `low` and `high` the bytes that it stores, and

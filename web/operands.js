@@ -1,6 +1,6 @@
 // Where the data of a turn goes: the operands of instructions, pushes and pops, in the order of
 // docs/MACHINE.md, Operands, and what each write is made of. The rules are those of
-// src/nezdrab/explore/operands.py, without what addresses are made of.
+// src/nezdrab/analysis/operands.py, without what addresses are made of.
 
 import {
   ALL_CODES, IO_PAGE, KEPT_ON_THE_BUS, KSP, MASK, OF_THE_DISK, OUTPUTS, POINT, PS, REST, USP,

@@ -1,5 +1,5 @@
 // A graph of origins as steps: bytes of one word that one operation makes are one step, and a value
-// that is only copied goes through. The rules are those of src/nezdrab/explore/steps.py.
+// that is only copied goes through. The rules are those of src/nezdrab/analysis/steps.py.
 
 import { firstOf, isCore } from "./cells.js";
 import { Kind, isWrite } from "./origins.js";

@@ -1,6 +1,6 @@
 // What a value is made of, backwards over the turns: each cell comes from one write, and that is
 // made of cells before it, down to events and to what is there since power-up. The rules are those
-// of src/nezdrab/explore/origins.py.
+// of src/nezdrab/analysis/origins.py.
 
 import {
   INPUTS, KEPT_ON_THE_BUS, POINT, PRB, SWITCHES, TKB, driveCell, firstOf, isCore, isOfDrive,

@@ -1,6 +1,6 @@
 // Words and physical addresses as a walk over turns meets them. Words are asked once, and again
 // after they are written; addresses again once mapping is. The rules are those of
-// src/nezdrab/explore/turn_cycles.py.
+// src/nezdrab/analysis/turn_cycles.py.
 
 import { IO_PAGE, coreWord } from "./cells.js";
 import { KERNEL, SPACES, USER } from "./facts.js";

@@ -59,7 +59,7 @@ export function symbolsOfSession(session) {
 }
 
 /** The symbols of a file by their addresses, or null if it has none. Of two names of an address the
-    last one is shown, as in src/nezdrab/explore/symbols.py.
+    last one is shown, as in src/nezdrab/core/symbols.py.
     @param {Uint8Array} bytes */
 function inOrder(bytes) {
   try {

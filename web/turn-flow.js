@@ -1,6 +1,6 @@
 // The data of turns: what each turn writes, and what that is made of, by the table in made-of.js
 // and the order of docs/MACHINE.md, What happens in order. The rules are those of
-// src/nezdrab/explore/turn_flow.py; tests compare what comes of both.
+// src/nezdrab/analysis/turn_flow.py; tests compare what comes of both.
 
 import {
   ALL_CODES, CODE_C, CODE_N, KSP, MASK, OF_THE_DISK, REGISTER_NAMES, REST, registerCells, wordCells,
