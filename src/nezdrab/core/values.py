@@ -1,8 +1,9 @@
-"""`dataclass` and `field`, as dataclasses has them, for a quick start: reading that module, and the
-text that it compiles for each class, takes longer than all else that explore and Machine read. What
-these classes need is here: fields with defaults, in the order of their annotations, equality, a
-representation, a hash if they are frozen, `__post_init__`. The functions of dataclasses, such as
-`asdict` and `replace`, know these classes; type checkers see dataclasses itself."""
+"""`dataclass` and `field`, as dataclasses has them, for a quick start: reading that module, and what
+it compiles for each class, takes longer than all else that Machine reads. Here a class has its
+`__init__` compiled when its first value is made. What these classes need is there: fields with
+defaults, equality, a representation, a hash if they are frozen, `__post_init__`. The functions of
+dataclasses, such as `asdict` and `replace`, know them; type checkers see dataclasses itself."""
+from operator import attrgetter
 from typing import TYPE_CHECKING
 
 if TYPE_CHECKING:
@@ -34,41 +35,30 @@ else:
         """The value with other values of these fields."""
         return type(value)(**{**{it: getattr(value, it) for it in type(value).NAMES}, **changes})
 
-    def default_of(cls, name):
-        if name not in cls.DEFAULTS:
-            raise TypeError(f"{cls.__name__} lacks {name}")
-        default = cls.DEFAULTS[name]
-        return default.make() if isinstance(default, Factory) else default
-
-    def filled(cls, given, named):
-        """All fields of a value: those given, in their order or by name, and the defaults."""
-        fields = dict(zip(cls.NAMES, given))
-        if len(given) > len(cls.NAMES) or named.keys() & fields or named.keys() - cls.NAMES:
-            raise TypeError(f"{cls.__name__} takes {', '.join(cls.NAMES)}, each once")
-        fields.update(named)
-        return {it: fields[it] if it in fields else default_of(cls, it) for it in cls.NAMES}
-
-    def begin(self, /, *given, **named):
-        cls = type(self)
-        if named or len(given) != len(cls.NAMES):
-            self.__dict__.update(filled(cls, given, named))
-        else:
-            self.__dict__.update(zip(cls.NAMES, given))
-        if cls.HAS_MORE:
-            self.__post_init__()
-
-    def parts(self):
-        return tuple([getattr(self, it) for it in type(self).NAMES])
+    def init_of(cls):
+        """`__init__`, which takes the fields in their order or by name."""
+        parameters, lines = ["_self"], ["_fields = _self.__dict__"]
+        for name in cls.NAMES:
+            default = cls.DEFAULTS.get(name)
+            made = f"{name}.make() if {name} is _DEFAULTS[{name!r}] else {name}"
+            lines.append(f"_fields[{name!r}] = {made if isinstance(default, Factory) else name}")
+            parameters.append(f"{name}=_DEFAULTS[{name!r}]" if name in cls.DEFAULTS else name)
+        lines += ["_self.__post_init__()"] * hasattr(cls, "__post_init__")
+        text = "\n    ".join([f"def __init__({', '.join(parameters)}):", *lines])
+        found = {"_DEFAULTS": cls.DEFAULTS, "__name__": cls.__module__}
+        exec(text, found)
+        return found["__init__"]
 
     def shown(self):
-        fields = (f"{name}={it!r}" for name, it in zip(type(self).NAMES, parts(self)))
-        return f"{type(self).__qualname__}({', '.join(fields)})"
+        fields = ", ".join(f"{it}={getattr(self, it)!r}" for it in type(self).NAMES)
+        return f"{type(self).__qualname__}({fields})"
 
     def is_equal(self, other):
+        parts = type(self).PARTS
         return parts(self) == parts(other) if type(self) is type(other) else NotImplemented
 
     def hash_of_parts(self):
-        return hash(parts(self))
+        return hash(type(self).PARTS(self))
 
     def refuse(self, name, *value):
         raise AttributeError(f"{type(self).__name__} can't be changed: {name}")
@@ -83,13 +73,18 @@ else:
         # after those of the class that this one is a kind of
         cls.NAMES = tuple(dict.fromkeys([*getattr(cls, "NAMES", ()), *names]))
         cls.DEFAULTS = {**getattr(cls, "DEFAULTS", {}), **defaults}
-        cls.HAS_MORE = hasattr(cls, "__post_init__")
+        cls.PARTS = attrgetter(*cls.NAMES)
         cls.__match_args__, cls.__dataclass_fields__ = cls.NAMES, Fields()
         cls.__hash__ = own.get("__hash__") or (hash_of_parts if is_frozen else None)
-        cls.__init__, cls.__eq__ = begin, own.get("__eq__", is_equal)
-        cls.__repr__ = own.get("__repr__", shown)
+        cls.__eq__, cls.__repr__ = own.get("__eq__", is_equal), own.get("__repr__", shown)
         if is_frozen:
             cls.__setattr__ = cls.__delattr__ = refuse
+
+        def begin(self, /, *given, **named):
+            cls.__init__ = init_of(cls)
+            cls.__init__(self, *given, **named)
+
+        cls.__init__ = begin
         return cls
 
     def dataclass(cls=None, *, frozen=False):
