@@ -1,8 +1,9 @@
-"""`dataclass` and `field`, as dataclasses has them, for a quick start: reading that module, and what
-it compiles for each class, takes longer than all else that Machine reads. Here a class has its
-`__init__` compiled when its first value is made. What these classes need is there: fields with
-defaults, equality, a representation, a hash if they are frozen, `__post_init__`. The functions of
-dataclasses, such as `asdict` and `replace`, know them; type checkers see dataclasses itself."""
+"""`dataclass`, `field` and `replace` as dataclasses has them, for a quick start: to read that
+module, and to compile all methods of each class, takes as long as all else that Machine reads. Here
+a class has its `__init__` compiled when its first value is made. There is what the classes of the
+package need: fields with defaults, also of the class that one is a kind of; equality, a
+representation, a hash if they are frozen, `__post_init__`. The functions of dataclasses, such as
+`asdict`, know these classes, and type checkers see dataclasses itself."""
 from operator import attrgetter
 from typing import TYPE_CHECKING
 

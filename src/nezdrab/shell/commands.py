@@ -54,5 +54,3 @@ class Commands(MutableMapping[str, Command]):
 
 
 COMMANDS = Commands()
-
-
