@@ -12,6 +12,7 @@ const [DEEPEST, INDENT, MORE] = [8, 12, 4];
  * @typedef {import("./made.js").MadeThing} MadeThing
  * @typedef {import("./path.js").PathStep} PathStep
  * @typedef {import("./reasons.js").Answer} Answer
+ * @typedef {{run: import("./run.js").Run, past: import("./past.js").Past}} OldPast
  */
 
 /** A text as a sentence.
@@ -19,10 +20,12 @@ const [DEEPEST, INDENT, MORE] = [8, 12, 4];
 const sentence = text => `${text[0].toUpperCase()}${text.slice(1)}.`;
 
 export class MadeQuestion {
-  /** @param {import("./app.js").App} app @param {MadeThing} thing */
-  constructor(app, thing, most = MOST_STEPS) {
+  /** @param {import("./app.js").App} app @param {MadeThing} thing @param {OldPast | null} old
+      the old past, if the question is about that */
+  constructor(app, thing, old = null, most = MOST_STEPS) {
     this.app = app;
     this.thing = thing;
+    this.old = old;
     this.most = most;
     /** @type {MadeOf | null} what was found so far of this past */
     this.found = null;
@@ -32,22 +35,27 @@ export class MadeQuestion {
     return nameOfMade(this.thing);
   }
 
+  /** The machine that is asked. */
+  get run() {
+    return this.old?.run ?? this.app.session.run;
+  }
+
   /** The same question about another past. */
   anew() {
-    return new MadeQuestion(this.app, this.thing, this.most);
+    return new MadeQuestion(this.app, this.thing, null, this.most);
   }
 
   /** The same question, of which more steps are followed. */
   further() {
-    const question = new MadeQuestion(this.app, this.thing, this.most * MORE);
+    const question = new MadeQuestion(this.app, this.thing, this.old, this.most * MORE);
     question.found = this.found;
     return question;
   }
 
   /** @param {import("./cursor.js").Ask} ask @param {number} turn @returns {Promise<Answer>} */
   async answer(ask, turn) {
-    const { panels, session: { run, contents, end } } = this.app, { thing } = this;
-    this.found ??= new MadeOf({ thing, turn, end, past: run.past, options: contents.arguments,
+    const { panels, session: { contents, end } } = this.app, { thing, old, run } = this;
+    this.found ??= new MadeOf({ thing, turn, end, past: old?.past ?? run.past, options: contents.arguments,
       instructionsOf: (it, trail) => panels.pastInstructions(it, trail) });
     const made = await this.found.answer(ask, this.most);
     return { turn: made.turn, inside: this.inside(made), path: pathOf(made) };
@@ -61,7 +69,7 @@ export class MadeQuestion {
     const more = make("button", { type: "button", onclick: () => this.goFurther() },
       "Follow further");
     const unfollowed = left ? [make("p", {}, `${sentence(left)} `, isLimited ? more : "")] : [];
-    return [list, ...[...cut, ...ends].map(it => make("p", {}, sentence(it))), ...unfollowed];
+    return [...[...cut, ...ends].map(it => make("p", {}, sentence(it))), ...unfollowed, list];
   }
 
   /** A line, whose step a click goes to.

@@ -5,6 +5,7 @@ import { Calls } from "./calls.js";
 import { ChosenByte } from "./chosen-byte.js";
 import { Console } from "./console.js";
 import { CursorPanels } from "./cursor.js";
+import { Dock } from "./dock.js";
 import { Drives } from "./drives.js";
 import { Edits } from "./edits.js";
 import { EventList } from "./events.js";
@@ -33,9 +34,10 @@ import { WorkBar } from "./work.js";
  * - `sessionBegins`: another session is open, and its kept edits aren't made again yet;
  * - `pastChanged`: an edit was made, and the past is told; also after a session is opened;
  * - `cursorMoved`: the cursor is before another turn, or memory is shown from another address;
+ * - `tabOpened`: another tab is open, and what it has is seen;
  * - `stopped`: the user has stopped the machine's work.
  * @typedef {{sessionEnds?: () => void, sessionBegins?: () => void, pastChanged?: () => void,
- *   cursorMoved?: () => void, stopped?: () => void}} Part
+ *   cursorMoved?: () => void, tabOpened?: () => void, stopped?: () => void}} Part
  * @typedef {import("./opened.js").OpenSession} OpenSession
  */
 
@@ -45,6 +47,7 @@ export class App {
     this.tasks = new Tasks();
     /** @type {OpenSession | null} */
     this.opened = null;
+    this.dock = new Dock(this);
     this.opening = new Opening(this);
     this.edits = new Edits(this);
     this.view = new PageView(this);

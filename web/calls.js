@@ -1,5 +1,5 @@
 // The panel of the calls that the machine stands in before the cursor's turn, the innermost first.
-// It is asked while it is open.
+// It is asked while it is seen.
 
 import { markTurn, stateOf } from "./cursor.js";
 import { Facts, SPACES } from "./facts.js";
@@ -32,9 +32,13 @@ export class Calls {
     this.ask();
   }
 
+  tabOpened() {
+    this.ask();
+  }
+
   ask() {
     const { app } = this;
-    if (!this.panel.open || !app.isOpen) return;
+    if (!this.panel.open || !app.isOpen || !app.dock.isSeen("machine")) return;
     app.attempt(() => this.show());
   }
 

@@ -5,13 +5,15 @@ import { Priority } from "./run.js";
 import { element, link, make, table } from "./page.js";
 import { symbolNear as nearest, symbolsOfMode } from "./session.js";
 import {
-  devicesOf, functionInWords, lastOf, octal, pageInWords, pagesOf, physicalOf, registersOf,
-  shownByte, statusInWords, turnsOf, unreadOf, vectorName, visibleName, wordsOf,
+  LAST_TURN, devicesOf, functionInWords, lastOf, octal, pageInWords, pagesOf, physicalOf,
+  registersOf, shownByte, statusInWords, turnsOf, unreadOf, vectorName, visibleName, wordsOf,
 } from "./replies.js";
 
 const [TURNS_BEFORE, INSTRUCTIONS, WORDS_BEFORE_SP, WORDS_OF_MEMORY] = [6, 8, 8, 16];
 const WORDS_OF_AN_INSTRUCTION = 3;
-const PANELS = ["registers", "devices", "pages", "instructions", "stack", "memory"];
+/** @type {Object<string, "machine" | "memory">} the tab of each panel */
+const PANELS = { devices: "machine", pages: "machine", instructions: "machine", stack: "machine",
+  memory: "memory" };
 const REGISTER_NAMES = ["R0", "R1", "R2", "R3", "R4", "R5", "KSP", "USP", "PC", "PS"];
 
 /**
@@ -32,7 +34,6 @@ const REGISTER_NAMES = ["R0", "R1", "R2", "R3", "R4", "R5", "KSP", "USP", "PC", 
  * or null if the mode has no pages.
  * @typedef {(lines: string[]) => Promise<string[]>} Ask
  * @typedef {ReturnType<typeof registersOf>} Registers
- * @typedef {ReturnType<typeof devicesOf>} Devices
  * @typedef {ReturnType<typeof pagesOf>} Pages
  * @typedef {ReturnType<typeof turnsOf>} Trail
  * @typedef {string | null} Space
@@ -70,6 +71,17 @@ export class CursorPanels {
     this.ask();
   }
 
+  /** What is seen now is asked, unless it is of this turn and past already. */
+  tabOpened() {
+    const { run } = this.app.session, now = stateOf(run, this.app.view.timeline.cursor);
+    if (this.seen().some(it => !isSame(this.shown.get(it), now))) this.ask();
+  }
+
+  /** The panels in the tab that is open. */
+  seen() {
+    return Object.keys(PANELS).filter(it => this.app.dock.isSeen(PANELS[it]));
+  }
+
   /** Asks for the machine before the turn of the cursor, and shows it. */
   ask() {
     const { app } = this, { run, symbols } = app.session, token = app.token("cursor");
@@ -83,7 +95,10 @@ export class CursorPanels {
 
   /** Each panel says of which turn it is, and if that isn't the one that is asked for. */
   mark() {
-    for (const name of PANELS) markTurn(element(`${name}-turn`), this.shown.get(name), this.wanted);
+    for (const name of ["registers", ...Object.keys(PANELS)]) {
+      markTurn(element(`${name}-turn`), this.shown.get(name), this.wanted);
+    }
+    element("does").classList.toggle("stale", !isSame(this.shown.get("does"), this.wanted));
   }
 
   /** The state that is asked for, which no panel may show yet.
@@ -106,25 +121,35 @@ export class CursorPanels {
     const state = this.want(run, turn);
     /** @type {Ask} */
     const ask = lines => run.ask(lines, Priority.CURSOR, token);
-    const before = Math.max(0, turn - 1), count = Math.min(TURNS_BEFORE, turn);
-    const lines = [`regs ${before}`, `regs ${turn}`, `pages ${turn}`, `devices ${turn}`];
-    if (count) lines.push(`trail ${turn} ${count}`);
-    const [old, now, pages, devices, trail] = await ask(lines);
+    const before = Math.max(0, turn - 1);
+    const [old, now, pages] = await ask([`regs ${before}`, `regs ${turn}`, `pages ${turn}`]);
     const registers = registersOf(now), mapping = pagesOf(pages), { core } = run.past;
     const machine = { turn, core, registers, space: spaceOf(mapping, registers.mode) };
     this.symbols = symbols;
     this.showRegisters(registersOf(old), registers);
-    this.showDevices(devicesOf(devices));
-    this.showPages(mapping);
-    for (const name of ["registers", "devices", "pages"]) this.isShown(name, state);
-    const later = {
-      instructions: this.showInstructions(ask, machine, trail ? turnsOf(trail) : []),
-      stack: this.showStack(ask, machine), memory: this.showMemory(ask, machine),
+    this.isShown("registers", state);
+    /** @type {Object<string, () => void | Promise<void>>} */
+    const shows = {
+      does: () => this.showDoes(ask, turn), pages: () => this.showPages(mapping),
+      devices: () => this.showDevices(ask, turn), stack: () => this.showStack(ask, machine),
+      instructions: () => this.showInstructions(ask, machine),
+      memory: () => this.showMemory(ask, machine),
     };
-    await Promise.all(Object.entries(later).map(async ([name, work]) => {
-      await work;
+    await Promise.all(["does", ...this.seen()].map(async name => {
+      await shows[name]();
       this.isShown(name, state);
     }));
+  }
+
+  /** What the machine does in the cursor's turn.
+      @param {Ask} ask @param {number} turn */
+  async showDoes(ask, turn) {
+    const place = element("does");
+    place.textContent = "";
+    if (turn === LAST_TURN) return;
+    const trail = turnsOf((await ask([`trail ${turn + 1} 1`]))[0]);
+    const [{ text, symbol, mode, pc }] = await this.pastInstructions(ask, trail);
+    place.textContent = `Turn ${turn} does: ${text} at ${symbol || octal(pc)}, ${mode}`;
   }
 
   /** @param {Registers} old @param {Registers} now */
@@ -136,8 +161,8 @@ export class CursorPanels {
         make("dd", {}, this.registerWord(name, now.words[name]), isChanged ? "*" : ""));
     });
     const status = `${now.state}; ${statusInWords(now.ps)}`;
-    element("registers").replaceChildren(make("dl", { class: "registers" }, ...cells),
-      make("p", {}, status), make("p", { class: "faint" }, "* changed by the turn before"));
+    element("registers").replaceChildren(make("p", {}, status),
+      make("dl", { class: "registers" }, ...cells));
   }
 
   /** A register's word: touched, it is asked why it is so. Where a program stands isn't followed.
@@ -150,8 +175,9 @@ export class CursorPanels {
     return made;
   }
 
-  /** @param {Devices} devices */
-  showDevices(devices) {
+  /** @param {Ask} ask @param {number} turn */
+  async showDevices(ask, turn) {
+    const devices = devicesOf((await ask([`devices ${turn}`]))[0]);
     const words = Object.entries(devices.words);
     const cells = words.map(([name, word]) => make("div", { class: "register" },
       make("dt", {}, name), make("dd", {}, octal(word))));
@@ -178,8 +204,10 @@ export class CursorPanels {
 
   // Instructions
 
-  /** @param {Ask} ask @param {TheMachine} machine @param {Trail} trail */
-  async showInstructions(ask, machine, trail) {
+  /** @param {Ask} ask @param {TheMachine} machine */
+  async showInstructions(ask, machine) {
+    const { turn: end } = machine, count = Math.min(TURNS_BEFORE, end);
+    const trail = count ? turnsOf((await ask([`trail ${end} ${count}`]))[0]) : [];
     const past = await this.pastInstructions(ask, trail);
     const next = await this.nextInstructions(ask, machine);
     /** @param {Instruction} it @param {Inside} turn @returns {Inside[]} */
@@ -368,6 +396,11 @@ export async function placesAt(ask, { turn, space, core }, address, count) {
 /** The machine before a turn, as the edits that a run has taken make it.
     @param {Run} run @param {number} turn @returns {State} */
 export const stateOf = (run, turn) => ({ run, turn, pasts: run.ledger.pasts });
+
+/** Whether a panel shows a state.
+    @param {Shown | null | undefined} shown @param {State | null} wanted */
+const isSame = (shown, wanted) => shown?.run === wanted?.run && shown?.turn === wanted?.turn
+  && shown?.pasts === wanted?.pasts;
 
 /** Says of which turn a panel is: `wanted` is the state that is asked for, `shown` what it has.
     @param {HTMLElement} place @param {Shown | null | undefined} shown

@@ -102,6 +102,7 @@ export class Edits {
       @param {string} before @param {string} changed */
   writeLine(before, changed, after = "") {
     const line = field("line");
+    this.app.dock.bring("line-panel");
     line.value = `${before}${changed}${after}`;
     line.focus();
     line.setSelectionRange(before.length, before.length + changed.length);

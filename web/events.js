@@ -102,7 +102,7 @@ export class EventList {
     const { app } = this;
     app.goTo(turn);
     this.show();
-    element("events-panel").scrollIntoView({ block: "nearest" });
+    app.dock.bring("events-panel");
     focusOn(`[data-turn="${turn}"]`);
   }
 

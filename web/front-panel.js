@@ -57,7 +57,7 @@ export class FrontPanel {
     element("front-address").append(this.address);
     element("front-data").append(this.data);
     this.switches = this.makeSwitches();
-    this.place.addEventListener("toggle", () => this.toggled());
+    this.place.addEventListener("toggle", () => this.ask());
     element("front-set").addEventListener("click", () => this.set());
     element("front-continue").addEventListener("click", () => this.event("continue"));
     element("front-examine").addEventListener("click", () => this.examine());
@@ -74,16 +74,14 @@ export class FrontPanel {
     this.ask();
   }
 
-  /** It takes the width of two panels while it is open. */
-  toggled() {
-    element("front-section").classList.toggle("wide", this.place.open);
+  tabOpened() {
     this.ask();
   }
 
-  /** Shows the machine before the cursor's turn, if the panel is open. */
+  /** Shows the machine before the cursor's turn, if the panel is seen. */
   ask() {
     const { app } = this;
-    if (!this.place.open || !app.isOpen) return;
+    if (!this.place.open || !app.isOpen || !app.dock.isSeen("machine")) return;
     this.examined = null;
     this.say("");
     this.show(ask => this.lightsBefore(ask));

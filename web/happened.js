@@ -17,10 +17,12 @@ const MOST_CHANGES = 2;
  * @typedef {(line: string) => Promise<string>} Ask
  */
 
-/** The changes of the ledger from a turn on.
-    @param {number} first @param {number} end @param {Ask} one
+/** The changes of the ledger from the turn on in which the first of the story's two keys is.
+    @param {import("./past.js").Past} past @param {number} end @param {Ask} one
     @returns {Promise<Change[]>} */
-async function changesFrom(first, end, one) {
+export async function changesIn({ events }, end, one) {
+  const { event, before } = STORY.safe;
+  const first = Math.min(...[event, before].map(it => events.get(it)?.turn ?? 0));
   /** @type {(Change | null)[]} */
   const found = [];
   for (let from = first; found.length < MOST_CHANGES;) {
@@ -79,11 +81,9 @@ export class Happened {
     const token = app.token("happened");
     this.show([]);
     if (!timeline.target) return;
-    const { events } = run.past, { event, before } = STORY.safe;
-    const first = Math.min(...[event, before].map(it => events.get(it)?.turn ?? 0));
     /** @param {string} line */
     const one = line => run.askOne(line, Priority.TEXT, token);
-    app.attempt(async () => this.show(stepsOf(await changesFrom(first, end, one))));
+    app.attempt(async () => this.show(stepsOf(await changesIn(run.past, end, one))));
   }
 
   /** @param {Step[]} steps */

@@ -46,6 +46,10 @@ export class Inspect {
     this.follow();
   }
 
+  tabOpened() {
+    this.follow();
+  }
+
   /** @param {string} id @param {() => void} act */
   onForm(id, act) {
     element(id).addEventListener("submit", event => {
@@ -114,7 +118,7 @@ export class Inspect {
     const { stretch } = this;
     if (!stretch) return;
     this.mark();
-    this.attempt(() => this.show(stretch));
+    if (this.app.dock.isSeen("memory")) this.attempt(() => this.show(stretch));
   }
 
   mark() {

@@ -16,16 +16,17 @@ const HEIGHTS = { axis: 24, events: 62, counter: 54, row: 30, steps: 40, sweep: 
 
 /**
  * What is drawn: `ghost` is the picture of the old past, or null; it is drawn up to turn `same`, if
- * that isn't null. `target` is where an event is to be dropped, or null.
+ * that isn't null. `target` is where an event is to be dropped, or null; `tick` is the turn of the
+ * tick that it is to pass, or null.
  * @typedef {{view: View, lanes: Lane[], height: number, width: number,
  *   picture: Picture | null, ghost: Picture | null, symbols: Partial<Symbols>,
  *   events: {turn: number}[], part: Part | null, same: number | null, sweep: SweepRuns | null,
- *   target?: Target | null}} Drawing
+ *   target?: Target | null, tick?: number | null}} Drawing
  * @typedef {import("./picture.js").Picture} Picture
  * @typedef {import("./session.js").Symbols} Symbols
  * @typedef {{turn: number, isExact: boolean}} Part where the old past and the new one part
  * @typedef {{runs: import("./sweep.js").Stretch[], isWhole: boolean}} SweepRuns
- * @typedef {{tick: number, from: number, to: number}} Target
+ * @typedef {{from: number, to: number}} Target
  */
 
 /** The turns that are in sight: `first` and `span` may be fractions of turns. */
@@ -116,16 +117,17 @@ class Frame {
   }
 
   draw() {
-    const { brush, drawing: { lanes, height, part, sweep, target = null } } = this;
+    const { brush, drawing: { lanes, height, part, sweep, target = null, tick = null } } = this;
     for (const lane of lanes) this.drawFrame(lane);
     // below all that has a label: no line goes through these
     if (target !== null) this.drawTarget(target, lanes[1], height);
+    if (tick !== null) brush.upright(tick, "interrupt", lanes[1].top, height);
     if (part !== null) brush.upright(part.turn, "accent", lanes[1].top, height);
     const strip = lanes.find(it => it.kind === "sweep");
     if (strip && sweep) brush.clipped(strip, () => this.drawSweep(strip, sweep));
     for (const lane of lanes) this.drawLane(lane);
     if (part !== null) this.labelPart(part, lanes[1]);
-    if (target !== null) this.labelTarget(target, lanes[1]);
+    this.labelTarget(target, tick, lanes[1]);
   }
 
   /** @param {Lane} lane */
@@ -176,7 +178,7 @@ class Frame {
 
   /** Where an event is to be dropped: from a turn on, after the tick before it.
       @param {Target} target @param {Lane} lane @param {number} height */
-  drawTarget({ tick, from, to }, lane, height) {
+  drawTarget({ from, to }, lane, height) {
     const { brush } = this, { pen, view, colours } = brush;
     brush.clipped({ top: lane.top, height: height - lane.top }, () => {
       pen.fillStyle = colours.good;
@@ -185,14 +187,15 @@ class Frame {
       pen.globalAlpha = 1;
       pen.fillRect(view.x(from), lane.top, 2, lane.height);
     });
-    brush.upright(tick, "interrupt", lane.top, height);
   }
 
-  /** @param {Target} target @param {Lane} lane */
-  labelTarget({ tick, from }, lane) {
+  /** Where an event is to be dropped is labelled after the place, the tick before it.
+      @param {Target | null} target @param {number | null} tick @param {Lane} lane */
+  labelTarget(target, tick, lane) {
     const { brush } = this, { pen, view } = brush;
     const y = lane.top + lane.height - 17, here = "the tick is here";
-    brush.label(view.x(from) + 6, y, "drop it here, after the tick", "good");
+    if (target) brush.label(view.x(target.from) + 6, y, "drop it here, after the tick", "good");
+    if (tick === null) return;
     brush.label(view.x(tick) - pen.measureText(here).width - 5, y, here, "interrupt");
   }
 

@@ -7,6 +7,7 @@ import { List } from "./lists.js";
 import { keepLook } from "./look.js";
 import { choice, element, field } from "./page.js";
 import { LAST_TURN } from "./replies.js";
+import { listLanes } from "./signs.js";
 
 /** @param {string} id @param {() => void} act */
 function onClick(id, act) {
@@ -80,6 +81,19 @@ function bindEdits(app) {
   onClick("sweep-stop", () => app.sweep.end());
 }
 
+/** The legend opens by `?`, where no text is typed, and closes by Escape. */
+function bindHelp() {
+  const help = /** @type {HTMLDetailsElement} */ (element("help"));
+  addEventListener("keydown", event => {
+    const { key, target } = event;
+    const types = target instanceof Element && target.matches("input, select, [role=textbox]");
+    if (key === "?" && !types) help.open = !help.open;
+    else if (key === "Escape" && help.open) help.open = false;
+    else return;
+    event.preventDefault();
+  });
+}
+
 /** Ctrl+Z undoes; with shift, or as Ctrl+Y, it makes again. A field has an undo of its own as long
     as what was typed there isn't entered. */
 function bindUndoKeys() {
@@ -106,6 +120,8 @@ function begin() {
   bindFiles(app);
   bindTurns(app);
   bindEdits(app);
+  listLanes();
+  bindHelp();
   keepLook(choice("look"), () => app.view.timeline.draw());
   /** @type {NodeListOf<HTMLElement>} */
   const lists = document.querySelectorAll("[data-list]");

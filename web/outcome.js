@@ -1,6 +1,7 @@
 // What comes of the story's event in the turn where it is: the balance, and what it means. What
 // came of another turn, or of the past before an edit, is never shown.
 
+import { changesIn } from "./happened.js";
 import { element } from "./page.js";
 import { STORY, depositsOf, targetOf, verdictOf } from "./story.js";
 
@@ -11,6 +12,7 @@ export class Outcome {
   constructor(app) {
     this.app = app;
     this.deposits = "";
+    element("next").addEventListener("click", () => this.askWhy());
   }
 
   /** Another session is open. */
@@ -51,5 +53,19 @@ export class Outcome {
     element("balance").textContent = balance;
     element("verdict").textContent = verdict;
     element("outcome").className = look;
+    element("next").hidden = look !== "good" || !this.app.session.old;
+  }
+
+  /** Once nothing is lost: what the ledger was made of in the old past, after the write in which a
+      deposit was lost. The path is in sight. */
+  askWhy() {
+    const { app } = this, { base: { past }, end } = app.session, { timeline } = app.view;
+    const [at] = STORY.words.filter(it => it.kind === "disk");
+    const asked = app.reasons.askOld({ kind: "disk", drive: at.drive, at: at.at }, async ask => {
+      const changes = await changesIn(past, end, async line => (await ask([line]))[0]);
+      return (changes.at(-1)?.turn ?? end - 1) + 1;
+    });
+    timeline.show(STORY.first, STORY.span);
+    return asked;
   }
 }

@@ -31,6 +31,8 @@ export class NamedPasts {
     this.differences = new Differences(element("difference"), turn => app.goTo(turn));
     /** @type {NamedPast[]} the first is the session as it was opened */
     this.kept = [];
+    /** @type {(() => Promise<void>) | null} what is left to be compared */
+    this.rest = null;
     element("past-go").addEventListener("click", () => this.go());
     element("past-forget").addEventListener("click", () => this.forget());
   }
@@ -46,7 +48,12 @@ export class NamedPasts {
     this.compare();
   }
 
+  tabOpened() {
+    if (this.app.isOpen) this.app.attempt(() => this.showRest());
+  }
+
   stopped() {
+    this.rest = null;
     this.differences.showStopped();
   }
 
@@ -197,11 +204,19 @@ export class NamedPasts {
     return app.changed();
   }
 
+  /** Compares the words of core and of the drives, once somebody looks at that. */
+  async showRest() {
+    const { rest } = this;
+    if (!rest || !this.app.dock.isSeen("past")) return;
+    this.rest = null;
+    await rest();
+  }
+
   /** Compares the past as it is now with the old one. */
   compare() {
     const { app, differences } = this, { session, view: { timeline } } = app;
     const { run, old, oldIsLoaded, end } = session, token = app.token("comparison");
-    timeline.part = timeline.same = null;
+    timeline.part = timeline.same = this.rest = null;
     if (!old || !session.isEdited) {
       differences.showNone();
       return;
@@ -215,7 +230,8 @@ export class NamedPasts {
         timeline.draw();
         timeline.part = await differences.show(comparison, end, timeline.same);
         timeline.draw();
-        await differences.showWords(comparison, end);
+        this.rest = () => differences.showWords(comparison, end);
+        await this.showRest();
       } catch (error) {
         if (!(error instanceof Stopped)) differences.showStopped();
         throw error;

@@ -1,7 +1,7 @@
 // A place in a run as the fragment of the page's address: back and forward go from place to place.
 
 /**
- * @typedef {{turn: number, first: number, span: number, core: number}} Place
+ * @typedef {{turn: number, first: number, span: number, core: number, tab?: string}} Place
  */
 
 // What is in sight is kept to a thousandth of a turn, which is less than a pixel.
@@ -9,9 +9,9 @@
 const rounded = turns => Math.round(turns * 1000) / 1000;
 
 /** @param {Place} place */
-export function fragmentOf({ turn, first, span, core }) {
+export function fragmentOf({ turn, first, span, core, tab }) {
   const turns = `#turn=${turn}&from=${rounded(first)}&turns=${rounded(span)}`;
-  return `${turns}&core=${core.toString(8)}`;
+  return `${turns}&core=${core.toString(8)}${tab ? `&tab=${tab}` : ""}`;
 }
 
 /** The place that a fragment names, as far as it does.
@@ -28,6 +28,7 @@ export function placeOf(fragment) {
   return {
     turn: number("turn", /^\d{1,10}$/), first: number("from", turns), span: number("turns", turns),
     core: number("core", /^[0-7]{1,6}$/, it => parseInt(it, 8)),
+    tab: words.get("tab") ?? undefined,
   };
 }
 

@@ -23,7 +23,7 @@ export class Reasons {
     /** @type {MadeQuestion | null} what is asked, before a turn */
     this.question = null;
     this.turn = 0;
-    /** @type {import("./cursor.js").State | undefined} */
+    /** @type {import("./cursor.js").Shown | undefined} */
     this.shown = undefined;
     element("why-form").addEventListener("submit", event => {
       event.preventDefault();
@@ -42,8 +42,21 @@ export class Reasons {
   /** Why something is so before the cursor's turn; the panel is brought into sight.
       @param {import("./made.js").MadeThing} thing */
   ask(thing) {
-    element("why-panel").scrollIntoView({ block: "nearest" });
+    this.app.dock.bring("why-panel");
     return this.attempt(() => this.show(new MadeQuestion(this.app, thing)));
+  }
+
+  /** Why something was so in the old past, before a turn that `find` finds there.
+      @param {import("./made.js").MadeThing} thing @param {(ask: Ask) => Promise<number>} find */
+  askOld(thing, find) {
+    const { app } = this, { old: run, oldIsLoaded, base: { past } } = app.session;
+    if (!run) return undefined;
+    app.dock.bring("why-panel");
+    return this.attempt(async () => {
+      await oldIsLoaded;
+      const turn = await find(asker(run, app.token("why")));
+      await this.show(new MadeQuestion(app, thing, { run, past }), turn);
+    });
   }
 
   /** Does work, and says what is wrong with what was asked.
@@ -71,10 +84,12 @@ export class Reasons {
     element("why-none").hidden = true;
   }
 
-  /** The past has changed: what is shown is asked again, before the same turn. */
+  /** The past has changed: what is shown is asked again, before the same turn. The old past has
+      changed only if it is another one. */
   pastChanged() {
     const { question, turn } = this;
-    if (question) this.attempt(() => this.show(question.anew(), turn));
+    if (question?.old && question.run !== this.app.session.old) this.forget();
+    else if (question && !question.old) this.attempt(() => this.show(question.anew(), turn));
   }
 
   /** The machine was stopped. */
@@ -86,17 +101,15 @@ export class Reasons {
   /** Shows the answer to a question before a turn, at first that of the cursor.
       @param {MadeQuestion} question */
   async show(question, turn = this.app.view.timeline.cursor) {
-    const { app } = this, { run } = app.session, token = app.token("why");
+    const { app } = this, { run, old } = question, token = app.token("why");
     this.question = question;
     this.turn = turn;
     field("why-word").value = question.name;
     this.mark(run);
     element("reasons").replaceChildren(make("p", { class: "faint at-work" }, "Looking back .."));
-    /** @type {Ask} */
-    const ask = async lines => (await run.ask(lines, Priority.QUESTION, token)).map(mustBeTaken);
-    const answer = await question.answer(ask, turn);
+    const answer = await question.answer(asker(run, token), turn);
     this.turn = answer.turn;
-    this.shown = stateOf(run, answer.turn);
+    this.shown = { ...stateOf(run, answer.turn), more: old ? `, ${app.pasts.inWords()}` : "" };
     element("reasons").replaceChildren(...answer.inside);
     app.view.path.show(answer.path);
     element("why-none").hidden = false;
@@ -108,3 +121,8 @@ export class Reasons {
     markTurn(element("why-turn"), this.shown, stateOf(run, this.turn));
   }
 }
+
+/** What asks a machine, and refuses a refusal.
+    @param {Run} run @param {import("./tasks.js").Token} token @returns {Ask} */
+const asker = (run, token) =>
+  async lines => (await run.ask(lines, Priority.QUESTION, token)).map(mustBeTaken);

@@ -10,7 +10,7 @@ import { Past, differenceOf, eventsIn } from "./past.js";
  * @typedef {import("./session.js").Symbols} Symbols
  * @typedef {import("./lanes.js").Part} Part
  * @typedef {import("./lanes.js").SweepRuns} SweepRuns
- * @typedef {import("./lanes.js").Target & {event: number}} Target of the event with this number
+ * @typedef {import("./lanes.js").Target & {event: number, tick: number}} Target
  */
 
 export class Scene {

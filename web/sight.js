@@ -111,11 +111,11 @@ function othersOf({ looks, text, step }) {
 
 export class Sight {
   /** @param {HTMLDetailsElement} place @param {Timeline} timeline
-      @param {(turn: number) => void} onTurn */
-  constructor(place, timeline, onTurn) {
+      @param {import("./app.js").App} app */
+  constructor(place, timeline, app) {
     this.place = place;
     this.timeline = timeline;
-    this.onTurn = onTurn;
+    this.app = app;
     /** What the table says. */
     this.said = "";
     this.body = part(place, "div");
@@ -123,17 +123,17 @@ export class Sight {
     this.showLater = delayed(150, () => this.show());
   }
 
-  /** Shows what is drawn now, if the table is unfolded. It is made anew only if it differs. */
+  /** Shows what is drawn now, if the table is seen. It is made anew only if it differs. */
   show() {
-    const { place, timeline, onTurn } = this;
-    if (!place.open) return;
+    const { place, timeline, app } = this;
+    if (!place.open || !app.dock.isSeen("past")) return;
     const { shown, left } = boundedRows(rowsOf(timeline.drawn()));
     const said = this.sentences(left);
     const all = JSON.stringify([said, shown]);
     if (all === this.said) return;
     this.said = all;
     const rows = shown.map(({ turn, lane, what }) => [
-      link(String(turn), "Go to this turn", () => onTurn(turn)), lane, what]);
+      link(String(turn), "Go to this turn", () => app.goTo(turn)), lane, what]);
     this.body.replaceChildren(make("p", {}, said),
       table("What is in sight", ["turn", "lane", ""], rows));
   }

@@ -45,14 +45,19 @@ export class ConsoleText {
     this.ask();
   }
 
-  /** Asks for the text, and for that of the old past if that isn't known up to this turn. */
+  tabOpened() {
+    if (this.isStale()) this.ask();
+  }
+
+  /** Asks for the text if it is seen, or the story has its balance of it, and for that of the old past if that isn't known up to this turn. */
   ask() {
-    const { app } = this, { run, old, oldIsLoaded, end } = app.session;
+    const { app } = this, { run, old, oldIsLoaded, end, isStory } = app.session;
     const token = app.token("text");
     const priority = run.isNear(end) ? Priority.CURSOR : Priority.TEXT;
     /** @param {import("./run.js").Run} it */
     const textOf = it => it.askOne(`text ${end}`, priority, token);
     this.mark();
+    if (!isStory && !app.dock.isSeen("console")) return;
     app.attempt(async () => {
       const reply = await textOf(run);
       if (!old) this.old = { end, ...shownText(reply) };

@@ -179,8 +179,9 @@ export class Timeline extends Scene {
     this.lanes = lanes;
     const { view, width, picture, ghost, symbols, part, same, sweep } = this;
     const events = this.eventsInSight(this.past.script), target = this.targetOfTaken();
-    this.drawing.draw(
-      { view, lanes, height, width, picture, ghost, symbols, events, part, same, sweep, target });
+    const tick = this.target?.tick ?? null;
+    this.drawing.draw({ view, lanes, height, width, picture, ghost, symbols, events, part, same,
+      sweep, target, tick });
     this.cursorLine.style.height = `${height}px`;
     this.marks.show(events);
     this.placeCursor();

@@ -5,6 +5,7 @@ import { thingAt, thingFrom, thingsOf } from "./things.js";
 import { octal, registersOf, turnsOf, visibleName } from "./replies.js";
 import { Priority } from "./run.js";
 import { symbolNear, symbolsOfMode } from "./session.js";
+import { explained } from "./signs.js";
 
 /**
  * What is told: how it begins, all of it, and whether who made it is asked.
@@ -51,7 +52,7 @@ export class Tips {
       @param {number} x @param {number} y @returns {Touched | null} */
   at(x, y) {
     const { timeline } = this, { view, symbols } = timeline;
-    const lane = timeline.lanes?.find(it => y >= it.top && y < it.top + it.height);
+    const lane = this.laneAt(y);
     if (!lane || x < view.left || x > view.left + view.width) return null;
     /** @param {Picture | null} picture */
     const touched = picture => thingAt(lane, thingsOf(lane, picture, symbols), view, x);
@@ -72,7 +73,21 @@ export class Tips {
     if (isOther || timeline.pointers.size || event.pointerType === "touch") return this.hide();
     const { left, top } = timeline.element.getBoundingClientRect();
     const [x, y] = [event.clientX - left, event.clientY - top], found = this.at(x, y);
+    if (x < timeline.view.left) return this.explain(x, y);
     return found ? this.tell(found, x, y + 16) : this.hide();
+  }
+
+  /** Says what the lane is whose name the pointer is at.
+      @param {number} x @param {number} y */
+  explain(x, y) {
+    const lane = this.laneAt(y);
+    this.told = null;
+    if (lane) this.show(explained(lane), x, y + 16);
+  }
+
+  /** @param {number} y */
+  laneAt(y) {
+    return this.timeline.lanes?.find(it => y >= it.top && y < it.top + it.height);
   }
 
   /** @param {FocusEvent} event */
@@ -164,8 +179,8 @@ export class Tips {
     const next = lanes[at < 0 ? 0 : Math.min(lanes.length - 1, Math.max(0, at + by))];
     this.lane = next.name;
     this.told = null;
-    this.show(next.label || next.name, 0, next.top);
-    this.timeline.tellCursor(`lane ${next.label || next.name}`);
+    this.show(explained(next), 0, next.top);
+    this.timeline.tellCursor(`lane ${explained(next)}`);
   }
 
   /** Goes to the next thing, or with -1 to the one before.

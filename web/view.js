@@ -32,7 +32,7 @@ export class PageView {
     this.minimap = new Minimap(element("minimap"), this.timeline);
     this.path = new Path(this.timeline);
     const table = /** @type {HTMLDetailsElement} */ (element("sight"));
-    this.sight = new Sight(table, this.timeline, turn => this.goTo(turn));
+    this.sight = new Sight(table, this.timeline, app);
     this.keepPlaceLater = delayed(PAUSE, () => keepPlace(this.place(), false));
   }
 
@@ -129,6 +129,10 @@ export class PageView {
     this.keepPlaceLater();
   }
 
+  tabOpened() {
+    this.sight.show();
+  }
+
   /** Other turns are in sight. */
   viewMoved() {
     if (!this.app.isOpen) return;
@@ -155,13 +159,14 @@ export class PageView {
 
   /** @returns {Place} */
   place() {
-    const { cursor, view } = this.timeline, { address } = this.app.panels;
-    return { turn: cursor, first: view.first, span: view.span, core: address };
+    const { cursor, view } = this.timeline, { panels: { address }, dock } = this.app;
+    return { turn: cursor, first: view.first, span: view.span, core: address, tab: dock.named };
   }
 
   /** Goes to the place that the address names.
       @param {Partial<Place>} place */
-  goToPlace({ turn, first, span, core }) {
+  goToPlace({ turn, first, span, core, tab }) {
+    this.app.dock.open(tab);
     if (core !== undefined) this.showAddress(core);
     const keepsView = span !== undefined;
     if (keepsView) this.timeline.show(first ?? 0, span);

@@ -83,7 +83,8 @@ class OnPage(counted.InBrowser):
         return self.browser.says()
 
     def wait_text(self, selector: str, part: str) -> str:
-        """Waits until the element's text has a part; returns the text."""
+        """Looks at an element until its text has a part; returns the text."""
+        self.browser.look_at(selector)
         name, wanted = json.dumps(selector), json.dumps(part)
         self.browser.wait(f"document.querySelector({name})?.textContent.includes({wanted})")
         return self.browser.text(selector)
@@ -102,6 +103,7 @@ class OnPage(counted.InBrowser):
 
     def fill(self, selector: str, text: str = "") -> None:
         """Puts the focus into a field, and types in it."""
+        self.browser.look_at(selector)
         name = json.dumps(selector)
         self.browser.value(
             f"(() => {{ const it = document.querySelector({name}); it.value = ''; it.focus(); }})()"

@@ -26,6 +26,9 @@ PRESSED = """(async (name, take) => {
   take?.(it);
   return middle;
 })"""
+# The tab that is to be opened before an element can be seen, or an empty text.
+TAB_OF = """(name => document.querySelector(name)?.closest("[role=tabpanel][hidden]")
+  ?.getAttribute("aria-labelledby") ?? "")"""
 # Takes an element as what the next press is for. The page may still move it before that: then the
 # press reaches nothing, and `hasMissed` says so once it was made.
 AIM = """(element => {
@@ -117,10 +120,17 @@ class Driven(ABC):
     def text(self, selector: str) -> str:
         return str(self.value(f"document.querySelector({json.dumps(selector)}).textContent"))
 
+    def look_at(self, selector: str) -> None:
+        """Opens the tab in which an element is, as who looks at the element does."""
+        tab = self.value(f"{TAB_OF}({json.dumps(selector)})")
+        if tab:
+            self.click(f"#{tab}")
+
     def middle(self, selector: str, seconds: float = WAIT, then: str = "null") -> list[float]:
         """The middle of an element, once a user could press it there: it is shown and stands still,
         and nothing lies over it. `then` is a function of the page that takes the element."""
         end = time.monotonic() + seconds
+        self.look_at(selector)
         while True:
             found = self.value(f"{PRESSED}({json.dumps(selector)}, {then})")
             if not isinstance(found, str):
