@@ -55,7 +55,8 @@ export class MadeQuestion {
   /** @param {import("./cursor.js").Ask} ask @param {number} turn @returns {Promise<Answer>} */
   async answer(ask, turn) {
     const { panels, session: { contents, end } } = this.app, { thing, old, run } = this;
-    this.found ??= new MadeOf({ thing, turn, end, past: old?.past ?? run.past, options: contents.arguments,
+    this.found ??= new MadeOf({ thing, turn, end, past: old?.past ?? run.past,
+      options: contents.arguments,
       instructionsOf: (it, trail) => panels.pastInstructions(it, trail) });
     const made = await this.found.answer(ask, this.most);
     return { turn: made.turn, inside: this.inside(made), path: pathOf(made) };

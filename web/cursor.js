@@ -14,7 +14,7 @@ const WORDS_OF_AN_INSTRUCTION = 3;
 /** @type {Object<string, "machine" | "memory">} the tab of each panel */
 const PANELS = { devices: "machine", pages: "machine", instructions: "machine", stack: "machine",
   memory: "memory" };
-const REGISTER_NAMES = ["R0", "R1", "R2", "R3", "R4", "R5", "KSP", "USP", "PC", "PS"];
+export const REGISTER_NAMES = ["R0", "R1", "R2", "R3", "R4", "R5", "KSP", "USP", "PC", "PS"];
 
 /**
  * The machine before a turn, as the edits that a run has taken make it; what a panel shows may say

@@ -19,10 +19,11 @@ import { isEdit } from "./past.js";
  */
 
 /**
- * What a page that was saved showed: the sum of its session, the edits, the place, the words, and
- * the pasts with names.
+ * What a page that was saved showed: the sum of its session, the edits, the place, the words and
+ * registers of the watch list, and the pasts with names.
  * @typedef {{sum: string, edits: KeptEdits, place: import("./place.js").Place,
- *   words: import("./names.js").WatchedWord[], pasts: import("./stored.js").StoredPast[]}} Shown
+ *   words: import("./names.js").WatchedWord[], registers?: string[],
+ *   pasts: import("./stored.js").StoredPast[]}} Shown
  */
 
 /**

@@ -153,7 +153,8 @@ export class Opening {
       await run.askPast();
       const page = await pageWith(contents, { sum: sumOfSession(contents),
         edits: { ...app.edits.kept(), saved: app.edits.sum() }, place: app.view.place(),
-        words: app.watched.words, pasts: storedPasts(contents) });
+        words: app.watched.words, registers: app.watched.registers,
+        pasts: storedPasts(contents) });
       saveFile(savedName(contents, ".html"), page, "text/html");
       app.edits.noteSaved();
       app.say("Saved: one file with all in it.");

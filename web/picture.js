@@ -54,7 +54,7 @@ const MOST_SEARCHED_TURNS = 20_000_000;
 
 /** The question for a word before a turn.
     @param {Past} past @param {WatchedWord} word @param {number} turn */
-function questionOf(past, word, turn) {
+export function questionOf(past, word, turn) {
   if (word.kind === "core") return `mem ${turn} ${word.at.toString(8)} 1`;
   const drive = past.version === 2 ? `${word.drive} ` : "";
   return `dsk ${turn} ${drive}${word.at.toString(8)} 1`;

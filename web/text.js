@@ -49,7 +49,8 @@ export class ConsoleText {
     if (this.isStale()) this.ask();
   }
 
-  /** Asks for the text if it is seen, or the story has its balance of it, and for that of the old past if that isn't known up to this turn. */
+  /** Asks for the text if it is seen, or the story has its balance of it; and for that of the old
+      past if that isn't known up to this turn. */
   ask() {
     const { app } = this, { run, old, oldIsLoaded, end, isStory } = app.session;
     const token = app.token("text");

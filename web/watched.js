@@ -1,12 +1,19 @@
-// The words of core and of drives that the timeline draws.
+// The watch list: registers, and words of core and of drives, which the timeline draws; each with
+// its value before the cursor's turn, in the old past too.
 
+import { REGISTER_NAMES, markTurn, stateOf } from "./cursor.js";
 import { shownOf } from "./kept.js";
 import { nameOfWord, namesOfSession, symbolOfWord, wordNamed } from "./names.js";
-import { element, make } from "./page.js";
-import { whyNoWord } from "./picture.js";
+import { element, make, table } from "./page.js";
+import { questionOf, whyNoWord } from "./picture.js";
+import { isRefused, octal, registersOf, wordsOf } from "./replies.js";
+import { Priority } from "./run.js";
 import { STORY } from "./story.js";
 
-/** @typedef {import("./names.js").WatchedWord} WatchedWord */
+/**
+ * @typedef {import("./names.js").WatchedWord} WatchedWord
+ * @typedef {import("./run.js").Run} Run
+ */
 
 export class Watched {
   /** @param {import("./app.js").App} app */
@@ -14,6 +21,14 @@ export class Watched {
     this.app = app;
     /** @type {import("./names.js").WatchedWord[]} */
     this.words = [];
+    /** @type {string[]} the names of registers */
+    this.registers = [];
+    /** @type {Map<string, string>} the values by names, and those of the old past */
+    this.values = new Map();
+    /** @type {Map<string, string>} */
+    this.olds = new Map();
+    /** @type {import("./cursor.js").State | null} of which turn and past the values are */
+    this.shown = null;
     /** @type {Map<string, string>} what words are called, by their names */
     this.called = new Map();
   }
@@ -22,11 +37,21 @@ export class Watched {
   sessionBegins() {
     const { isStory, contents } = this.app.session;
     this.words = shownOf(contents)?.words ?? (isStory ? STORY.words : []);
+    this.registers = (shownOf(contents)?.registers ?? []).filter(it => isRegister(it));
     this.called = namesOfSession(contents);
   }
 
   pastChanged() {
     this.show();
+    this.ask();
+  }
+
+  cursorMoved() {
+    this.ask();
+  }
+
+  tabOpened() {
+    this.ask();
   }
 
   /** Draws a word, or no longer if it is drawn already.
@@ -35,8 +60,18 @@ export class Watched {
     const others = this.words.filter(it => nameOfWord(it) !== nameOfWord(word));
     this.words = others.length < this.words.length ? others : [...this.words, word];
     this.show();
+    this.ask();
     this.app.pictures.draw();
     this.app.view.timeline.draw();
+  }
+
+  /** Watches a register, or no longer.
+      @param {string} name */
+  turnRegister(name) {
+    const others = this.registers.filter(it => it !== name);
+    this.registers = others.length < this.registers.length ? others : [...others, name];
+    this.show();
+    this.ask();
   }
 
   /** What a word is called, and its name.
@@ -51,11 +86,54 @@ export class Watched {
     const names = this.words.map(nameOfWord);
     this.app.view.timeline.words = names.map(name => (
       { name, label: this.called.get(name) ?? "" }));
-    element("words").replaceChildren(...this.words.map((word, at) => make("button", {
-      type: "button", title: "Draw this word no longer", onclick: () => this.turn(word),
-      "aria-label": `Draw ${this.titleOf(names[at])} no longer`,
-    }, `${this.titleOf(names[at])} \u2715`)));
+    this.showList();
     for (const it of this.words) this.nameBySymbol(it);
+  }
+
+  /** The list, with the values that are known. */
+  showList() {
+    const { olds, values, app } = this;
+    /** @param {string} name @param {string} what @param {() => void} onclick */
+    const row = (name, what, onclick) => [this.titleOf(name), values.get(name) ?? "..",
+      olds.get(name) ?? "", make("button", { type: "button", class: "link", title: what, onclick,
+        "aria-label": `${what}: ${this.titleOf(name)}` }, "\u2715")];
+    const rows = [
+      ...this.words.map(it => row(nameOfWord(it), "Draw no longer", () => this.turn(it))),
+      ...this.registers.map(it => row(it, "Watch no longer", () => this.turnRegister(it)))];
+    const heads = ["", "value", olds.size ? app.pasts.inWords() : "", ""];
+    element("words").replaceChildren(...rows.length ? [table("Watch list", heads, rows)] : []);
+  }
+
+  /** Asks for the values before the cursor's turn, if the list is seen. */
+  ask() {
+    const { app } = this, { run, old, oldIsLoaded, base } = app.session;
+    const { cursor } = app.view.timeline, state = stateOf(run, cursor);
+    const place = element("watched-turn"), token = app.token("watched");
+    markTurn(place, this.shown, state);
+    if (!app.dock.isSeen("memory")) return;
+    app.attempt(async () => {
+      const values = await this.valuesOf(run, run.past, cursor, token);
+      if (old) await oldIsLoaded;
+      this.olds = old ? await this.valuesOf(old, base.past, cursor, token) : new Map();
+      this.values = values;
+      this.shown = state;
+      this.showList();
+      markTurn(place, state, state);
+    });
+  }
+
+  /** What is watched, in a past before a turn.
+      @param {Run} run @param {import("./past.js").Past} past @param {number} turn
+      @param {import("./tasks.js").Token} token */
+  async valuesOf(run, past, turn, token) {
+    const { words, registers } = this;
+    const lines = [`regs ${turn}`, ...words.map(it => questionOf(past, it, turn))];
+    const [regs, ...replies] = await run.ask(lines, Priority.QUESTION, token);
+    const held = registersOf(regs).words;
+    /** @param {string} reply */
+    const valueOf = reply => isRefused(reply) ? "none" : octal(wordsOf(reply)[0]);
+    return new Map([...registers.map(it => /** @type {const} */ ([it, octal(held[it])])),
+      ...words.map((it, at) => /** @type {const} */ ([nameOfWord(it), valueOf(replies[at])]))]);
   }
 
   /** A word that the session doesn't name is called as its symbol is.
@@ -74,10 +152,11 @@ export class Watched {
     });
   }
 
-  /** Draws a word by its name, if the machine has it.
+  /** Watches a register by its name, or draws a word, if the machine has it.
       @param {string} name */
   turnNamed(name) {
     const { app } = this;
+    if (isRegister(name)) return this.turnRegister(name);
     return app.attempt(async () => {
       const word = wordNamed(name);
       const why = word ? await whyNoWord(app.session.run, word)
@@ -87,3 +166,6 @@ export class Watched {
     });
   }
 }
+
+/** @param {string} name */
+const isRegister = name => REGISTER_NAMES.includes(name);
