@@ -19,6 +19,7 @@ LEDGER = ROOT / "examples" / "ledger"
 SECONDS = 300
 LOST, SAFE = "137", "145"
 KEY = '[data-event="15"]'
+TABS = ("machine", "memory", "ask", "past", "console")
 
 
 class Shared:
@@ -88,6 +89,11 @@ class OnPage(counted.InBrowser):
         name, wanted = json.dumps(selector), json.dumps(part)
         self.browser.wait(f"document.querySelector({name})?.textContent.includes({wanted})")
         return self.browser.text(selector)
+
+    def open_tab(self, name: str) -> None:
+        """Opens a tab of the dock, and waits until what it shows is known."""
+        self.browser.click(f"#tab-{name}")
+        self.wait_still()
 
     def wait_still(self) -> None:
         """Waits until the picture is drawn and nothing is under way."""

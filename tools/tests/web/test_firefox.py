@@ -215,11 +215,15 @@ class Looking(InFirefox):
                 self.go(turn)
                 shown = re.sub(r"[\s*]", "", self.browser.text("#registers dl"))
                 self.assertEqual(shown, "".join(registers.split()[:-1]))
-                self.assertEqual(self.memory(), words.split()[1:])
+                self.assertEqual(self.memory(turn), words.split()[1:])
                 self.assertEqual(self.type_line(f"text {turn}"), f"text {turn}: {text}")
 
-    def memory(self) -> list[str]:
-        """The words that the panel of core shows, each beside its address."""
+    def memory(self, turn: int) -> list[str]:
+        """The words that the panel of core shows before a turn, each beside its address."""
+        self.browser.look_at("#memory")
+        self.browser.wait(
+            f"document.querySelector('#memory-turn').textContent === 'before turn {turn}'"
+        )
         found: list[list[Any]] = self.browser.value(
             "[...document.querySelectorAll('#memory tbody tr')].map(it =>"
             "[...it.cells].slice(0, 2).map(cell => cell.textContent))"

@@ -138,4 +138,5 @@ class Inspect(OpenCase):
         words = "document.querySelector('#inspected td + td').textContent"
         self.browser.wait(f"{words}.startsWith('000132')")
         self.type_line("disk 3 77")
+        self.browser.look_at("#inspected")
         self.browser.wait(f"{words}.includes('000077')")

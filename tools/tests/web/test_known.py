@@ -22,6 +22,7 @@ class Words(PageCase):
         self.browser.key("Enter")
 
     def test_a_word_that_is_not_there(self) -> None:
+        self.open_tab("memory")
         drawn = self.browser.text("#words")
         for name, why in NO_WORDS.items():
             self.draw(name)
@@ -59,7 +60,8 @@ class Stopping(PageCase):
         return [self.browser.text(f"#{it}-turn") for it in PANELS]
 
     def test_the_turn_of_each_panel(self) -> None:
-        self.wait_still()
+        self.open_tab("memory")
+        self.open_tab("machine")
         self.assertEqual(self.marks(), [f"before turn {CURSOR}"] * 6)
         self.go(FAR)
         self.browser.wait("!document.querySelector('#work').hidden")

@@ -6,7 +6,7 @@ from typing import Any
 
 from tests import under_test
 
-from .common import KEY, SAFE, PageCase
+from .common import KEY, SAFE, TABS, PageCase
 
 SIZES = ((1280, 900), (400, 800))
 # What the page shows for moments, or changes while the user does something else.
@@ -73,14 +73,14 @@ class Tour(PageCase):
         self.shot(f"{name}-first")
         self.browser.drag(KEY, width / 12)
         self.balance(SAFE)
-        self.wait_text("#difference", "Drive 0")
         self.browser.value("scrollTo(0, 0)")
         self.shot(f"{name}-dragged")
-        for panel in ("registers", "memory", "console", "sweep"):
-            self.browser.value(
-                f"document.querySelector('#{panel}-panel')?.scrollIntoView({{block: 'start'}})"
-            )
-            self.shot(f"{name}-{panel}")
+        self.browser.click("#next")
+        self.wait_text("#reasons", "Made of events")
+        self.shot(f"{name}-asked")
+        for tab in TABS:
+            self.open_tab(tab)
+            self.shot(f"{name}-{tab}")
         self.browser.value("scrollTo(0, 0)")
         self.browser.value("document.querySelector('[data-key=\"0\"]').click()")
         self.wait_text("#notes", "the first of each")
@@ -124,13 +124,14 @@ class Tour(PageCase):
         self.wait_text("#difference", "Drive 0")
         for width in (400, 1280):
             self.browser.size(width, 800)
-            self.wait_still()
-            wide = self.browser.value(
-                "[...document.querySelectorAll('.scroll, pre, main section')]"
-                ".map(it => [it.parentElement.id, it.scrollWidth - it.clientWidth])"
-                ".filter(([_, by]) => by > 0 && by < 60)"
-            )
-            self.assertEqual(wide, [], width)
+            for tab in TABS:
+                self.open_tab(tab)
+                wide = self.browser.value(
+                    "[...document.querySelectorAll('.scroll, pre, main section')]"
+                    ".map(it => [it.parentElement.id, it.scrollWidth - it.clientWidth])"
+                    ".filter(([_, by]) => by > 0 && by < 60)"
+                )
+                self.assertEqual(wide, [], (width, tab))
 
     def test_what_comes_and_goes_moves_nothing(self) -> None:
         """The user may be about to press it."""
@@ -181,15 +182,17 @@ class Names(PageCase):
         self.browser.value("document.querySelector('#turn').value = '1000000000'")
         self.browser.value("document.querySelector('#turn-form').requestSubmit()")
         self.browser.wait("!document.querySelector('#work').hidden")
-        controls = self.controls()
+        for tab in TABS:
+            self.browser.click(f"#tab-{tab}")
+            controls = self.controls()
+            names = [it[1] for it in controls]
+            self.assertGreater(len(names), 20)
+            self.assertNotIn("", names)
+            self.assertIn("Turn of the run", names)
+            outside = [it[:2] for it in controls if not it[2]]
+            self.assertEqual([it for it in outside if outside.count(it) > 1], [], tab)
+            self.assertEqual([it for it in names if "\u2715" in it or it == "Stop"], [], tab)
         self.browser.click("#stop")
-        names = [it[1] for it in controls]
-        self.assertGreater(len(names), 20)
-        self.assertNotIn("", names)
-        self.assertIn("Turn of the run", names)
-        outside = [it[:2] for it in controls if not it[2]]
-        self.assertEqual([it for it in outside if outside.count(it) > 1], [])
-        self.assertEqual([it for it in names if "\u2715" in it or it == "Stop"], [])
 
     def test_targets_are_large(self) -> None:
         """24 pixels each way, as WCAG 2.5.8 has it."""
@@ -198,14 +201,15 @@ class Names(PageCase):
         self.wait_text("#difference", "Drive 0")
         for width in (400, 1280):
             self.browser.size(width, 800)
-            self.wait_still()
-            small = self.browser.value(
-                f"[...document.querySelectorAll(\"{kinds}\")].filter(it => it.tabIndex >= 0)"
-                ".map(it => [it.outerHTML, it.getBoundingClientRect()])"
-                ".filter(([_, box]) => box.width && (box.width < 24 || box.height < 24))"
-                ".map(it => it[0])"
-            )
-            self.assertEqual(small, [])
+            for tab in TABS:
+                self.open_tab(tab)
+                small = self.browser.value(
+                    f"[...document.querySelectorAll(\"{kinds}\")].filter(it => it.tabIndex >= 0)"
+                    ".map(it => [it.outerHTML, it.getBoundingClientRect()])"
+                    ".filter(([_, box]) => box.width && (box.width < 24 || box.height < 24))"
+                    ".map(it => it[0])"
+                )
+                self.assertEqual(small, [], tab)
 
     def test_events_are_told(self) -> None:
         label = self.browser.value(f"document.querySelector('{KEY}').ariaLabel")

@@ -186,6 +186,7 @@ class Text(MadeCase, OpenCase):
 
     def middle_of(self, part: str) -> list[float]:
         """The middle of the last character of a part of the text."""
+        self.browser.look_at("#text")
         return list(
             self.browser.value(
                 "(() => { const it = document.querySelector('#text'), node = it.firstChild;"
@@ -213,6 +214,7 @@ class Text(MadeCase, OpenCase):
     def test_a_character_is_chosen_by_keys(self) -> None:
         (text,) = replies_of([*PAST, f"text {END}"])[-1:]
         count = int(text.split()[1].partition(":")[0])
+        self.browser.look_at("#text")
         self.browser.value("document.querySelector('#text').focus()")
         for _ in range(3):
             self.browser.key("ArrowLeft")

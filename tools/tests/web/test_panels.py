@@ -76,7 +76,7 @@ class Panels(PageCase):
         self.browser.key("Enter")
         self.browser.wait("document.querySelector('#words').textContent.includes('core 001520')")
         self.wait_still()
-        self.browser.click("#words button:last-child")
+        self.browser.click("#words tr:last-child button")
         self.browser.wait("!document.querySelector('#words').textContent.includes('core 001520')")
 
     def test_what_is_in_sight_is_a_table_too(self) -> None:

@@ -105,7 +105,7 @@ class Fragments(PageCase):
         self.browser.value("history.back()")
         self.browser.wait("document.querySelector('#turn').value === '127163'")
         self.browser.value(pause)
-        zoomed = "#turn=127163&from=5100.375&turns=200.25&core=30000"
+        zoomed = "#turn=127163&from=5100.375&turns=200.25&core=30000&tab=memory"
         self.assertEqual(self.browser.value("location.hash"), zoomed)
 
     def test_a_fragment_that_names_nothing(self) -> None:

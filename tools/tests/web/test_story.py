@@ -43,6 +43,7 @@ def story() -> dict[str, int]:
 
 class Said(PageCase):
     def test_what_it_is_and_what_a_turn_is(self) -> None:
+        self.browser.click("#help summary")
         said = re.sub(r"\s+", " ", self.browser.value("document.body.innerText"))
         self.assertIn("A recorded day of a small bank's computer", said)
         self.assertIn("some 240,000 steps of the processor", said)
