@@ -39,6 +39,8 @@ export class Watched {
     this.words = shownOf(contents)?.words ?? (isStory ? STORY.words : []);
     this.registers = (shownOf(contents)?.registers ?? []).filter(it => isRegister(it));
     this.called = namesOfSession(contents);
+    this.values = new Map();
+    this.olds = new Map();
   }
 
   pastChanged() {

@@ -73,9 +73,11 @@ class InBrowser(InChromium, Case):
         shown = self.browser.text("#registers")
         for register, word in zip(words[::2], words[1::2]):
             self.assertIn(f"{register}{word}", shown)
+        self.open_tab("memory")
         memory = replies[f"mem {system.turn} 2000 16"].split()[1:]
         rows = [it[:2] for it in self.browser.value(WORDS) if it[0].isdigit()]
         self.assertEqual(rows, [[f"{0o2000 + 2 * at:06o}", it] for at, it in enumerate(memory)])
+        self.open_tab("console")
         text = replies[f"text {system.end}"].partition(":")[2].replace("\\015\\012", "\n")
         self.assertEqual(self.browser.text("#text").rstrip("\n"), text.rstrip("\n"))
 
@@ -89,6 +91,7 @@ class InBrowser(InChromium, Case):
     def test_a_kernel_with_symbols_and_names(self) -> None:
         edits = "alter 15 127165 key 66\ndrop 4\nat 131000 tick\ncore 2000 7\ndisk 0 101\n"
         self.check(System(LEDGER, f"{SYMBOLS}{edits}", 128_066, 238_614))
+        self.open_tab("machine")
         self.assertIn("BUSY+4", self.browser.text("#instructions"))
         self.fill("#watch", "disk 0")
         self.browser.key("Enter")
