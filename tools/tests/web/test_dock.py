@@ -299,34 +299,33 @@ class Watching(OpenCase):
         self.browser.key("Enter")
         self.wait_still()
 
+    def values(self, turn: int, *edits: str) -> list[str]:
+        """The values by the program."""
+        lines = [f"regs {turn}", f"mem {turn} 30000 1", f"mem {turn} 40000 1", f"dsk {turn} 0 1"]
+        regs, *words = replies_of([*PAST, *edits, *lines])[-4:]
+        held = dict(zip(regs.split()[::2], regs.split()[1::2]))
+        return [*(it.split()[1] for it in words), held["R2"], held["PC"]]
+
+    def go(self, turn: int) -> None:
+        self.fill("#turn", str(turn))
+        self.browser.key("Enter")
+        said = "document.querySelector('#watched-turn').textContent"
+        self.browser.wait(f"{said} === 'before turn {turn}'")
+
     def test_values_at_the_cursor_and_in_the_old_past(self) -> None:
-        self.watch("R2")
-        self.watch("PC")
-        asked = ("regs", "mem", "mem", "dsk")
+        for name in ("R2", "PC"):
+            self.watch(name)
+        turns = (CURSOR, 127_900, 128_500)
+        for turn in turns:
+            self.go(turn)
+            self.assertEqual([it[1:] for it in self.rows()], [[it, ""] for it in self.values(turn)])
         edit = "alter 15 127165 key 66"
-        for edits in [], [edit]:
-            if edits:
-                self.type_line(edit)
-                self.browser.look_at("#words")
-            for turn in (CURSOR, 127_900, 128_500):
-                self.fill("#turn", str(turn))
-                self.browser.key("Enter")
-                self.browser.wait(
-                    "document.querySelector('#watched-turn').textContent === "
-                    f"'before turn {turn}'"
-                )
-                places = ("", " 30000 1", " 40000 1", " 0 1")
-                lines = [f"{it} {turn}{at}" for it, at in zip(asked, places)]
-
-                def values(*made: str) -> list[str]:
-                    regs, *words = replies_of([*PAST, *made, *lines])[-4:]
-                    held = dict(zip(regs.split()[::2], regs.split()[1::2]))
-                    return [*(it.split()[1] for it in words), held["R2"], held["PC"]]
-
-                shown = self.rows()
-                self.assertEqual([it[1] for it in shown], values(*edits), turn)
-                old = values() if edits else [""] * 5
-                self.assertEqual([it[2] for it in shown], old, turn)
+        self.type_line(edit)
+        self.browser.look_at("#words")
+        for turn in turns:
+            self.go(turn)
+            both = zip(self.values(turn, edit), self.values(turn))
+            self.assertEqual([it[1:] for it in self.rows()], [list(it) for it in both], turn)
         self.assertIn("before your edits", self.browser.text("#words thead"))
 
     def test_a_register_is_watched_no_longer(self) -> None:

@@ -132,6 +132,7 @@ class Files(FilesCase):
     def shown(self) -> list[str]:
         """What is shown of a past with edits, once all is there."""
         self.balance(SAFE)
+        self.open_tab("memory")
         self.wait_text("#difference", "Drive 0")
         self.wait_still()
         texts = self.browser.value(

@@ -36,6 +36,11 @@ class LoadingCase(FilesCase):
         self.give(path)
         self.wait_still()
 
+    def symbols(self) -> list[str]:
+        """The symbols that stand beside the instructions."""
+        self.open_tab("machine")
+        return list(self.browser.value(SYMBOLS))
+
     def loads(self, *paths: Path) -> str:
         self.give(*paths)
         self.wait_still()
@@ -77,7 +82,7 @@ class Loading(LoadingCase):
         self.fill("#turn", "0")
         self.browser.key("Enter")
         self.wait_text("#instructions", "START")
-        shown = [it for it in self.browser.value(SYMBOLS) if it]
+        shown = [it for it in self.symbols() if it]
         self.assertEqual(shown[0], places[0o1000])
         self.assertTrue({"LOOP", "WAIT", "LOOP+2"} <= set(shown), shown)
         self.fill("#find-what", "DONE")
@@ -103,7 +108,7 @@ class Loading(LoadingCase):
         self.assertIn("PC 000000", self.type_line("regs 0"))
         self.assertIn(PRINTS, self.type_line("text 1000"))
         places = {it.name for it in program.symbols if not it.is_constant}
-        names = {it.partition("+")[0] for it in self.browser.value(SYMBOLS)}
+        names = {it.partition("+")[0] for it in self.symbols()}
         self.assertLessEqual(names, places | {""})
         self.assertIn("wait", names)
         lines = self.saved("#save").read_text().splitlines()
@@ -222,12 +227,12 @@ class Alone(LoadingCase):
         self.assertEqual(self.browser.text("#session-name"), "hello.lda")
         self.assertEqual(self.edits(), [])
         self.has(tape_of(LDA.read_bytes()).bytes)
-        self.assertIn("HELLO", self.browser.text("#text"))
-        self.assertIn("START", self.browser.value(SYMBOLS))
+        self.wait_text("#text", "HELLO")
+        self.assertIn("START", self.symbols())
         self.begin(AOUT)
         self.has(program_of(AOUT.read_bytes()).bytes)
         self.assertIn("PC 000000", self.type_line("regs 0"))
-        self.assertIn("start", self.browser.value(SYMBOLS))
+        self.assertIn("start", self.symbols())
         self.browser.reload()
         self.wait_text("#text", "HELLO")
         self.browser.click("#own")

@@ -82,6 +82,7 @@ class Panels(PageCase):
     def test_what_is_in_sight_is_a_table_too(self) -> None:
         first, end = 126_300, 128_900
         self.wait_still()
+        self.browser.look_at("#sight")
         self.browser.value("document.querySelector('#sight summary').focus()")
         self.browser.key("Enter")
         self.wait_text("#sight", "core 030000")

@@ -214,6 +214,7 @@ class Happened(PageCase):
         is_hidden = "document.querySelector('#happened').hidden"
         self.steps()
         self.assertFalse(self.browser.value(is_hidden))
+        self.browser.look_at("#terminal")
         self.browser.value("document.querySelector('#terminal').focus()")
         self.browser.key("Enter")
         self.wait_text("#terminal-status", "before turn ")

@@ -18,6 +18,7 @@ class TheConsole(PageCase):
 
     def begin(self) -> None:
         """Enter in the pane runs the machine."""
+        self.browser.look_at("#terminal")
         self.browser.value("document.querySelector('#terminal').focus()")
         self.browser.key("Enter")
         self.wait_text("#terminal-status", "before turn ")
@@ -59,8 +60,11 @@ class TheConsole(PageCase):
         self.assertIn("Once you make an edit", self.browser.text("#difference"))
         self.begin()
         self.browser.type("h")
-        self.wait_text("#difference", "Once the console ends, this says what its keys changed.")
-        self.wait_text("#events-count", "1 event")
+        # (a look at another tab would end the console)
+        says = "document.querySelector('#{}').textContent.includes('{}')"
+        ends = "Once the console ends, this says what its keys changed."
+        self.browser.wait(says.format("difference", ends))
+        self.browser.wait(says.format("events-count", "1 event"))
         (line,) = self.lines()
         turn = int(line.split()[1])
         self.assertEqual(self.browser.value(examples)[0], f"alter 1 {turn - 1} key 150")
@@ -70,6 +74,7 @@ class TheConsole(PageCase):
         self.wait_still()
 
     def test_it_runs_by_a_button_or_enter_while_it_has_the_focus(self) -> None:
+        self.browser.look_at("#speed")
         self.browser.value("document.querySelector('#speed').focus()")
         before = self.turn()
         for there in ("terminal-screen", "terminal"):
