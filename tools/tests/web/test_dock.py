@@ -77,6 +77,16 @@ class Tabs(PageCase):
         self.browser.key("Tab", SHIFT)
         self.assertEqual(self.browser.value("document.activeElement.id"), "tab-machine")
 
+    def test_the_open_one_is_marked_in_each_look(self) -> None:
+        grounds = (
+            "[...document.querySelectorAll('[role=tab]')]"
+            ".map(it => getComputedStyle(it).backgroundColor)"
+        )
+        for is_dark, is_forced in ((False, False), (True, False), (False, True), (True, True)):
+            self.browser.size(1280, 800, is_dark, is_forced)
+            found = self.browser.value(grounds)
+            self.assertNotIn(found[0], found[1:], (is_dark, is_forced))
+
     def test_it_is_a_part_of_the_place(self) -> None:
         self.browser.click("#tab-past")
         self.browser.wait("location.hash.endsWith('&tab=past')")
