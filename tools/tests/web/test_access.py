@@ -126,6 +126,7 @@ class Access(OpenCase):
         count = 0
         for name in TABS:
             self.open_tab(name)
+            self.browser.key("Tab")
             all_of_them = int(self.found("beginFocus()"))
             self.assertGreater(all_of_them, 30)
             seen: list[int] = []
