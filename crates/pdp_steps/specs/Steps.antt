@@ -1,17 +1,20 @@
 -- The microcode as data: the phase of each step. No rule of the handbook is here.
-use Rattle.std.specs.Prelude.{ℕ, ◌<◌, Some}
+use Rattle.std.specs.Prelude.{ℕ, ◌<◌, None, Some}
 use Rattle.pdp_word.specs.Size.{span}
 use Rattle.pdp_word.specs.declared.size.Size.{Size}
 use Rattle.pdp_word.specs.declared.size.Size.TheVariants.{Word}
 use Rattle.pdp_action.specs.Operation.{size_of_combination}
 use Rattle.pdp_action.specs.Operation.{size_of_modification, size_of_replacement}
 use Rattle.pdp_alu.specs.declared.effect.Effect.{Effect}
+use Rattle.pdp_decode.specs.declared.instruction.Instr.TheVariants.{Reserved}
 use Rattle.pdp_io_page.specs.Handbook.Status.{status_of_word}
 use Rattle.pdp_io_page.specs.declared.status.Status.{Status}
 use Rattle.pdp_operand.specs.Handbook.Operand.{grow, index, indirect, lower, mode_now}
 use Rattle.pdp_operand.specs.Handbook.Operand.{name_register, point, read_before_write}
 use Rattle.pdp_operand.specs.Handbook.Operand.{read_operand, size_of_fill, write_operand}
 use Rattle.pdp_operand.specs.Phases.Phase.{Latch, Phase, raising}
+use Rattle.pdp_operand.specs.declared.place.Place.TheVariants.{Reg}
+use Rattle.pdp_operand.specs.declared.processor.RegisterId.TheVariants.{R0}
 use Rattle.pdp_instruction.specs.Handbook.Branch.{branch_phase, subtract_one}
 use Rattle.pdp_instruction.specs.Handbook.ChangeCodes.{clear_codes, set_codes}
 use Rattle.pdp_instruction.specs.Handbook.Control.{halt, reset, wait}
@@ -58,6 +61,19 @@ latch_of latch = record {
   instr = latch.instr;
   counter = latch.counter;
   status = latch.status;
+}
+
+-- The latch before the first phase.
+abbrev pub empty_latch : Latch
+empty_latch = record {
+  place = Reg R0;
+  value = 0;
+  source = 0;
+  result = 0;
+  codes = None;
+  instr = Reserved;
+  counter = 0;
+  status = 0;
 }
 
 abbrev pub latch_with_source : StepLatch → ℕ → StepLatch

@@ -1,3 +1,6 @@
+ghost use Rattle.std.specs.Prelude.{◌≡◌};
+ghost use Rattle.pdp_steps.specs.Steps.{empty_latch, latch_of};
+
 use pdp_decode::Instr;
 use pdp_operand::{Place, RegisterId};
 use pdp_word::Codes;
@@ -24,15 +27,18 @@ pub struct StepLatch {
 }
 
 impl StepLatch {
-    /// A latch to begin with. What it holds is arbitrary: a step is its phase from each latch.
-    pub fn empty() -> StepLatch {
+    /// The latch before the first phase. What it holds is arbitrary: a step is its phase from each
+    /// latch.
+    pub fn empty() -> StepLatch
+        ensures { latch_of result ≡ empty_latch }
+    {
         StepLatch {
             place: Place::Reg(RegisterId::R0),
             value: 0,
             source: 0,
             result: 0,
             codes: None,
-            instr: Instr::Halt,
+            instr: Instr::Reserved,
             counter: 0,
             status: 0,
         }
