@@ -56,9 +56,10 @@ fn bus_with(alloc: Global, words: [u16; 3]) -> Result<TestBus, NoMemory> {
     for place in 0..WORDS {
         let _ = bus.write(u32::from(place) * 2, place % 256 * 2);
     }
-    for (place, word) in (0o1000u32..).step_by(2).zip(words) {
-        let _ = bus.write(place, word);
-    }
+    let [instruction, second, third] = words;
+    let _ = bus.write(0o1000, instruction);
+    let _ = bus.write(0o1002, second);
+    let _ = bus.write(0o1004, third);
     Ok(bus)
 }
 
