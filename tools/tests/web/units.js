@@ -359,13 +359,14 @@ export function test_keys_and_their_bytes() {
 }
 
 /** What is drawn of a picture: each text, and each colour that is in the column of a turn. */
-function drawn(picture, { first, span, ghost = null, same = null, target = null }) {
+function drawn(picture, view) {
+  const { first, span, ghost = null, same = null, target = null, tick = null } = view;
   const canvas = document.createElement("canvas");
   document.body.append(canvas);
   const colours = { faint: "#f00", ghost: "#f00", disk: "#0f0", grid: "#00f" };
   for (const name of Object.keys(colours)) canvas.style.setProperty(`--${name}`, colours[name]);
-  const drawing = new LanesDrawing(canvas), view = new View(first, span), texts = [];
-  Object.assign(view, { left: 100, width: 1000 });
+  const drawing = new LanesDrawing(canvas), shown = new View(first, span), texts = [];
+  Object.assign(shown, { left: 100, width: 1000 });
   const write = drawing.pen.fillText;
   drawing.pen.fillText = (text, ...more) => {
     texts.push(text);
@@ -373,12 +374,12 @@ function drawn(picture, { first, span, ghost = null, same = null, target = null 
   };
   const { lanes, height } = lanesOf(picture.words);
   drawing.draw({
-    view, lanes, height, width: 1110, picture, ghost, symbols: {}, events: [], part: null, same,
-    sweep: null, target,
+    view: shown, lanes, height, width: 1110, picture, ghost, symbols: {}, events: [], part: null,
+    same, sweep: null, target, tick,
   });
   const coloursOf = (lane, turn) => {
     const { top } = lanes.find(it => it.name === lane);
-    const { data } = drawing.pen.getImageData(view.x(turn), top + 2, 3, 28);
+    const { data } = drawing.pen.getImageData(shown.x(turn), top + 2, 3, 28);
     const seen = at => data.some((it, place) => place % 4 === at && it > 100);
     return ["faint", "disk", "grid"].filter((_, at) => seen(at));
   };
@@ -485,10 +486,11 @@ export function test_the_events_near_a_turn() {
 }
 
 export function test_where_an_event_is_to_be_dropped_is_told() {
-  const target = { tick: 40, from: 50, to: 70 };
-  const { texts } = drawn(PICTURE, { first: 0, span: 100, target });
-  equal(texts.filter(it => it.includes("the tick")),
+  const target = { from: 50, to: 70 }, tick = 40;
+  const told = view => drawn(PICTURE, view).texts.filter(it => it.includes("the tick"));
+  equal(told({ first: 0, span: 100, target, tick }),
     ["drop it here, after the tick", "the tick is here"]);
-  const gone = drawn(PICTURE, { first: 60, span: 100, target }).texts;
-  equal(gone.filter(it => it.includes("the tick")), []);
+  equal(told({ first: 0, span: 100, tick }), ["the tick is here"]);
+  equal(told({ first: 0, span: 100 }), []);
+  equal(told({ first: 60, span: 100, target, tick }), []);
 }
