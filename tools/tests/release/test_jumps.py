@@ -122,9 +122,9 @@ class SlowJumps(Linked):
         """The jump of the burst is slow if it begins at one of the places."""
         counts = "  ".join(f"{it:2} {1 if it == slow else 0:6.2f}" for it in range(0, 32, 8))
         lines = ended.stdout.splitlines()
-        asked = ["pdp11, regs N", "search, first 0 N at 157700", "search, writes 0 N 157700"]
-        self.assertEqual(lines[::3], asked)
-        self.assertEqual(lines[2::3], 3 * [f"{BURST} begins at {PLACE}: {counts}"])
+        asked = ["first 0 N at 157700", "writes 0 N 157700", "first 0 N where USP = 157701"]
+        self.assertEqual(lines[::3], ["pdp11, regs N", *(f"search, {it}" for it in asked)])
+        self.assertEqual(lines[2::3], 4 * [f"{BURST} begins at {PLACE}: {counts}"])
         for line in lines[1::3]:
             self.assertRegex(line, r"^loop +\d+\.\d\d ")
 
@@ -137,7 +137,7 @@ class SlowJumps(Linked):
     def test_a_burst_that_another_place_is_better_for(self) -> None:
         ended = self.counted((30 - PLACE) % 32)
         wanted = f"{BURST} has fewer at {0 if PLACE else 8}: choose that in {SCRIPT}\n"
-        self.assertEqual((ended.returncode, ended.stderr), (1, 3 * f"jumps: {wanted}"))
+        self.assertEqual((ended.returncode, ended.stderr), (1, 4 * f"jumps: {wanted}"))
         self.assertShows(ended, PLACE)
 
     def test_a_program_that_is_linked_without_the_script(self) -> None:
