@@ -6,3 +6,6 @@ pub mod Kept
 pub mod Others
 pub mod Indexes
 pub mod CheckedEdits
+pub mod Restoring
+pub mod RestoredLabels
+pub mod RestoredTurns

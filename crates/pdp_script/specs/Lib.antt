@@ -5,3 +5,4 @@ pub mod Fault
 pub mod Refusal
 pub mod Script
 pub mod Labels
+pub mod Restore

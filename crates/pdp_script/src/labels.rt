@@ -1,8 +1,11 @@
 ghost use Rattle.std.specs.Prelude.{◌≡◌, ◌↔◌, ℕ, ◌<◌, ◌≤◌, length, map, true, IfOk, IsErr};
 ghost use Rattle.std.specs.Prelude.{MatchOption, vec_capacity, vec_len};
 ghost use Rattle.std.specs.List.{All, AllWithin};
-ghost use Rattle.pdp_script.specs.Labels.{IsFirstOf, IsInOrder, PutsLast};
+ghost use Rattle.pdp_script.specs.Entries.{without};
+ghost use Rattle.pdp_script.specs.Labels.{IsFirstOf, IsInOrder, PutsLast, labelled_entries};
+ghost use Rattle.pdp_script.specs.Restore.{placed_entry, put_back};
 
+use crate::entry::Entry;
 use pdp_unibus::Event;
 use pdp_word::NoMemory;
 
@@ -106,4 +109,59 @@ pub fn put_last(labels: &mut Vec<Label>, events: &mut Vec<Event>, label: Label, 
     let index = index_after(labels, label.turn);
     labels.insert(index, label).unwrap();
     events.insert(index, event).unwrap();
+}
+
+/// The place of the first label of this number, with its entry.
+pub fn placed(labels: &[Label], events: &[Event], number: u32) -> Option<(usize, Entry)>
+    requires in_step { length labels.now ≡ length events.now }
+    ensures { result ≡ placed_entry (labelled_entries labels.now events.now) number }
+{
+    let Some(place) = index_of(labels, number) else {
+        return None;
+    };
+    let entry = Entry {
+        number: labels[place].number,
+        turn: labels[place].turn,
+        event: events[place],
+    };
+    Some((place, entry))
+}
+
+/// Takes the first entry of this number out, if there is one.
+pub fn take_out(labels: &mut Vec<Label>, events: &mut Vec<Event>, number: u32)
+    requires in_step { length labels.old.items ≡ length events.old.items }
+    requires labels_room { vec_len labels.old < vec_capacity labels.old }
+    requires events_room { vec_len events.old < vec_capacity events.old }
+    ensures entries { labelled_entries labels.new.items events.new.items
+        ≡ without (labelled_entries labels.old.items events.old.items) number }
+    ensures in_step { length labels.new.items ≡ length events.new.items }
+    ensures labels_room { vec_len labels.new < vec_capacity labels.new }
+    ensures events_room { vec_len events.new < vec_capacity events.new }
+{
+    let Some(place) = index_of(labels, number) else {
+        return;
+    };
+    labels.remove(place);
+    events.remove(place);
+}
+
+/// Puts an entry at its place again, if there was one, in the room that is there.
+pub fn put_in(labels: &mut Vec<Label>, events: &mut Vec<Event>, was: Option<(usize, Entry)>)
+    requires in_step { length labels.old.items ≡ length events.old.items }
+    requires labels_room { vec_len labels.old < vec_capacity labels.old }
+    requires events_room { vec_len events.old < vec_capacity events.old }
+    ensures entries { labelled_entries labels.new.items events.new.items
+        ≡ put_back was (labelled_entries labels.old.items events.old.items) }
+    ensures in_step { length labels.new.items ≡ length events.new.items }
+{
+    let Some((place, entry)) = was else {
+        return;
+    };
+    let label = Label {
+        number: entry.number,
+        turn: entry.turn,
+    };
+    let place = place.min(labels.len());
+    labels.insert(place, label).unwrap();
+    events.insert(place, entry.event).unwrap();
 }

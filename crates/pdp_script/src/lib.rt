@@ -9,6 +9,8 @@
 //!   else (`edits_leave_other_turns`, `edits_leave_other_entries`). An edit can also be done to a
 //!   copy (`edited`).
 //! - Whether two scripts have the same events from a turn on (`has_events_of`).
+//! - What a script has of an event's number (`before`) takes an edit back, exactly, if it is from
+//!   before the edit, and makes it again if it is from after (`restore`, `edits_are_taken_back`).
 //! - The events of a turn, the next turn that has any, and all of them with their numbers and turns
 //!   (`at`, `turn_of`, `next_turn`, `entries`).
 //!
@@ -27,6 +29,6 @@ mod script;
 
 pub use entry::Entry;
 pub use faults::Fault;
-pub use laws::{edits_leave_other_entries, edits_leave_other_turns};
+pub use laws::{edits_are_taken_back, edits_leave_other_entries, edits_leave_other_turns};
 pub use pdp_unibus::LAST_TURN;
-pub use script::{MOST_EVENTS, Script, ScriptEdit};
+pub use script::{EventBefore, MOST_EVENTS, Script, ScriptEdit};

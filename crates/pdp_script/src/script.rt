@@ -1,5 +1,5 @@
 ghost use Rattle.std.specs.Prelude.{◌≡◌, ◌↔◌, ℕ, ◌+◌, [], IfOk, MatchOption, Option, true};
-ghost use Rattle.std.specs.Prelude.{◌≤◌, cond, false, nat_lt, Err, Ok, OnOk};
+ghost use Rattle.std.specs.Prelude.{◌≤◌, cond, false, is_err, nat_lt, Err, Ok, OnOk};
 ghost use Rattle.pdp_script.specs.Entries.{entry_of, events_at, events_from, turn_from};
 ghost use Rattle.pdp_script.specs.Entries.{DifferLastFrom};
 ghost use Rattle.pdp_script.specs.Entries.{IsNextTurn};
@@ -7,13 +7,14 @@ ghost use Rattle.pdp_script.specs.Refusal.{edit_answer, for_memory, past_left};
 ghost use Rattle.pdp_script.specs.Refusal.{question_answer, result_map};
 ghost use Rattle.pdp_script.specs.Script.{insert_edit, insert_answer, alter_edit, drop_edit};
 ghost use Rattle.pdp_script.specs.Script.{first_turn_of_edit, script_edited, IsScript};
+ghost use Rattle.pdp_script.specs.Restore.{event_before, script_restored, turn_before};
 ghost use Rattle.std.specs.Option.{option_map};
 
 use crate::entry::Entry;
 use crate::faults::Fault;
 use crate::labels::{
-    Label, are_same_events, are_same_turns, index_after, index_from, index_of, insert_last,
-    put_last,
+    Label, are_same_events, are_same_turns, index_after, index_from, index_of, insert_last, placed,
+    put_in, put_last, take_out,
 };
 use pdp_unibus::{Event, LAST_TURN};
 use pdp_word::NoMemory;
@@ -41,6 +42,31 @@ pub enum ScriptEdit {
     Drop {
         number: u32,
     },
+}
+
+/// What a script has of the number of an event: the event with its place among all, if there is
+/// one, and how many numbers were given. From before an edit it takes the edit back, and from after
+/// the edit it makes the edit again [P].
+#[derive(Clone, Copy)]
+pub struct EventBefore {
+    /// The number.
+    pub number: u32,
+    /// The place of its event among all, counted from 0, with the event.
+    pub was: Option<(usize, Entry)>,
+    /// How many numbers were given.
+    pub given: u32,
+}
+
+impl EventBefore {
+    /// The turn of its event, if there is one.
+    pub fn turn(&self) -> Option<u32>
+        ensures { result ≡ turn_before self.now }
+    {
+        match self.was {
+            Some((_, entry)) => Some(entry.turn),
+            None => None,
+        }
+    }
 }
 
 /// What happens to the machine from outside: events in the order of their turns, each under a
@@ -165,10 +191,12 @@ impl Script {
         }
     }
 
-    /// Whether an edit could be done, memory allowing.
+    /// Whether an edit could be done, memory allowing. It takes no memory.
     ///
-    /// Err as that of the edit.
-    fn check(&self, edit: ScriptEdit) -> Result<(), Fault>
+    /// # Errors
+    ///
+    /// Those of the edit, except for `NoMemory`.
+    pub fn check(&self, edit: ScriptEdit) -> Result<(), Fault>
         ensures { result ≡ result_map (λ _. tt) (script_edited edit self.now) }
     {
         match edit {
@@ -347,6 +375,36 @@ impl Script {
                 event,
             );
         }
+        Ok(())
+    }
+
+    /// What the script has of this number. It takes no memory.
+    pub fn before(&self, number: u32) -> EventBefore
+        ensures before { result ≡ event_before number self.now }
+        ensures kept { IsScript self.now }
+    {
+        EventBefore {
+            number,
+            was: placed(&self.labels, &self.events, number),
+            given: self.given,
+        }
+    }
+
+    /// Gives the script back what it had of a number: the event at its place, or none, and how many
+    /// numbers were given.
+    ///
+    /// # Errors
+    ///
+    /// `NoMemory` if memory was refused. The script is then as it was.
+    pub fn restore(&mut self, before: EventBefore) -> Result<(), NoMemory>
+        requires { IsScript (script_restored before self.old) }
+        ensures { self.new ≡ cond (is_err result) self.old (script_restored before self.old) }
+    {
+        self.labels.reserve(1)?;
+        self.events.reserve(1)?;
+        take_out(&mut self.labels, &mut self.events, before.number);
+        put_in(&mut self.labels, &mut self.events, before.was);
+        self.given = before.given;
         Ok(())
     }
 }
