@@ -8,3 +8,4 @@ pub mod DelayedCheckpoints
 pub mod SharedPages
 pub mod PutPages
 pub mod PagesAlike
+pub mod Bounds

@@ -1,5 +1,6 @@
 -- What is kept of a run that an edit of its past ended, until a run of the edited past meets it.
-use Rattle.std.specs.Prelude.{ℕ, ◌≡◌, ◌≤◌, ◌<◌, ◌⊎◌, List, Option, Some, None, max, slice_get}
+use Rattle.std.specs.Prelude.{ℕ, ◌≡◌, ◌≤◌, ◌<◌, ◌⊎◌, List, Option, Some, None, length, max}
+use Rattle.std.specs.Prelude.{slice_get}
 use Rattle.std.specs.List.{All}
 use Rattle.pdp_cpu.specs.SavedOutput.{OutputData}
 use Rattle.pdp_checkpoint.specs.declared.checkpoint.Checkpoint.{Checkpoint}
@@ -11,6 +12,21 @@ pub record FormerData : Type 0 where
   pub output : OutputData
   pub edited : ℕ
   pub known : ℕ
+
+-- how many former runs are kept at most, and how many states of each: those that a ladder kept
+abbrev pub most_formers : ℕ
+most_formers = 2
+
+abbrev pub most_states : ℕ
+most_states = 512
+
+abbrev pub HasFewStates : FormerData → Type 0
+HasFewStates f = length f.states ≤ most_states
+
+-- at most two former runs, each with at most 512 states
+pub record AreFewFormers (formers : List FormerData) : Type 0 where
+  pub count : length formers ≤ most_formers
+  pub states : All HasFewStates formers
 
 -- once an edit may have changed the events of turns up to this one
 abbrev pub former_edited : ℕ → FormerData → FormerData

@@ -6,7 +6,7 @@ use Rattle.pdp_unibus.specs.Handbook.LastTurn.{last_turn}
 use Rattle.pdp_cpu.specs.Handbook.MachineState.{MachineState}
 use Rattle.pdp_cpu.specs.Saved.{saved_machine}
 use Rattle.pdp_checkpoint.specs.declared.checkpoint.Checkpoint.{Checkpoint}
-use Rattle.pdp_checkpoint.specs.Formers.{FormerData}
+use Rattle.pdp_checkpoint.specs.Formers.{AreFewFormers, FormerData}
 
 abbrev pub widest_stride : ℕ
 widest_stride = 2000000000
@@ -52,6 +52,13 @@ pub record AreCheckpoints (l : LadderData) : Type 0 where
   pub positive : 0 < l.stride
   pub widest : l.stride ≤ widest_stride
   pub within : next_of l ≤ last_turn + l.stride
+
+-- what is kept is bounded: at most 256 checkpoints at their turns, at most 256 states between them,
+-- and at most two former runs, each with at most 512 states
+pub record IsLadder (l : LadderData) : Type 0 where
+  pub checkpoints : AreCheckpoints l
+  pub near : length l.near ≤ most_near
+  pub formers : AreFewFormers l.formers
 
 -- those whose turns are multiples of a stride
 abbrev pub at_multiples : ℕ → List Checkpoint → List Checkpoint

@@ -1,9 +1,10 @@
 //! States that an edit drops, set aside for a former run.
 
-ghost use Rattle.std.specs.Prelude.{◌≡◌, ◌++◌, ◌∷◌, ◌⊎◌, [], drop, map, nat_le, take};
+ghost use Rattle.std.specs.Prelude.{◌≡◌, ◌≤◌, ◌++◌, ◌∷◌, ◌⊎◌, [], drop, length, map};
+ghost use Rattle.std.specs.Prelude.{nat_le, take};
 ghost use Rattle.std.specs.List.{All, filter};
 ghost use Rattle.pdp_checkpoint.specs.Formers.{former_edited, IsAbove, IsFormerIn, IsLeft};
-ghost use Rattle.pdp_checkpoint.specs.Formers.{IsStateIn};
+ghost use Rattle.pdp_checkpoint.specs.Formers.{IsStateIn, most_formers};
 
 use crate::checkpoint::Checkpoint;
 use crate::former::Former;
@@ -14,6 +15,7 @@ use std::alloc::Global;
 pub(crate) fn split_kept(alloc: Global, kept: &mut Vec<Checkpoint>, count: usize) -> Vec<Checkpoint>
     ensures kept { kept.new.items ≡ take count kept.old.items }
     ensures late { All (IsStateIn (drop count kept.old.items)) result.items }
+    ensures few { length result.items ≤ length kept.old.items }
 {
     let count = count.min(kept.len());
     match kept.split_off(count) {
@@ -30,6 +32,7 @@ pub(crate) fn split_kept(alloc: Global, kept: &mut Vec<Checkpoint>, count: usize
 pub(crate) fn split_near(alloc: Global, near: &mut Vec<Checkpoint>, turn: u32) -> Vec<Checkpoint>
     ensures near { near.new.items ≡ filter (λ c. nat_le c.turn turn) near.old.items }
     ensures late { All (IsAbove turn near.old.items) result.items }
+    ensures few { length result.items ≤ length near.old.items }
 {
     let mut late = Vec::new(alloc);
     let mut place = near.len();
@@ -45,7 +48,8 @@ pub(crate) fn split_near(alloc: Global, near: &mut Vec<Checkpoint>, turn: u32) -
 /// Adds a former run to these. Of the others the one that was known up to the greatest turn stays,
 /// if that is above the turn up to which this one was known. If memory is refused it is dropped.
 pub(crate) fn add_former(formers: &mut Vec<Former>, former: Former)
-    ensures { All (IsLeft former formers.old.items) formers.new.items }
+    ensures left { All (IsLeft former formers.old.items) formers.new.items }
+    ensures few { length formers.new.items ≤ most_formers }
 {
     keep_longer(formers, former.known());
     add(formers, former);
@@ -53,7 +57,8 @@ pub(crate) fn add_former(formers: &mut Vec<Former>, former: Former)
 
 /// Drops all former runs but the first that was known up to a turn above this one.
 fn keep_longer(formers: &mut Vec<Former>, known: u32)
-    ensures { All (IsFormerIn formers.old.items) formers.new.items }
+    ensures left { All (IsFormerIn formers.old.items) formers.new.items }
+    ensures few { length formers.new.items ≤ 1 }
 {
     formers.retain(|former| former.known() > known);
     formers.truncate(1);

@@ -8,8 +8,9 @@ ghost use Rattle.pdp_checkpoint.specs.Delayed.{ladder_with_delays};
 ghost use Rattle.pdp_checkpoint.specs.Patched.{HavePageAlike, patched_to};
 ghost use Rattle.pdp_cpu.specs.Saved.{HasWord};
 ghost use Rattle.pdp_checkpoint.specs.Ladder.{widest_stride, checkpoint_of, next_of, best_of};
-ghost use Rattle.pdp_checkpoint.specs.Ladder.{kept_with, near_with, AreCheckpoints};
-ghost use Rattle.pdp_checkpoint.specs.Formers.{former_edited, IsClosest, IsFormerAfter};
+ghost use Rattle.pdp_checkpoint.specs.Ladder.{kept_with, near_with, AreCheckpoints, IsLadder};
+ghost use Rattle.pdp_checkpoint.specs.Formers.{former_edited, AreFewFormers, IsClosest};
+ghost use Rattle.pdp_checkpoint.specs.Formers.{IsFormerAfter};
 
 use crate::aside::{add_former, edit_each, split_kept, split_near};
 use crate::checkpoint::Checkpoint;
@@ -34,9 +35,9 @@ pub const WIDEST_STRIDE: u32 = 2_000_000_000;
 pub const MOST_NEAR: usize = 256;
 
 /// Checkpoints of a machine, at most 256, at the multiples of a stride from turn 0 on, and beside
-/// them at most 256 states near the turns that were asked about last, and at most two former runs.
-/// A contract sees the list of the checkpoints, the earliest first, the stride, the list of the
-/// other states, and that of the former runs.
+/// them at most 256 states near the turns that were asked about last, and at most two former runs
+/// of at most 512 states each. A contract sees the list of the checkpoints, the earliest first, the
+/// stride, the list of the other states, and that of the former runs.
 #[derive(Drop)]
 pub struct Ladder {
     kept: Vec<Checkpoint>,
@@ -53,7 +54,7 @@ impl Model for Ladder {
 
     ghost Value = { LadderData };
 
-    ghost use Rattle.pdp_checkpoint.specs.Ladder.{AreCheckpoints};
+    ghost use Rattle.pdp_checkpoint.specs.Ladder.{IsLadder};
 
     ghost view = { λ l. record {
       kept = l.kept.items;
@@ -62,7 +63,7 @@ impl Model for Ladder {
       formers = l.formers.items;
     } };
 
-    ghost invariant = { λ l. AreCheckpoints (record {
+    ghost invariant = { λ l. IsLadder (record {
       kept = l.kept.items;
       stride = l.stride;
       near = l.near.items;
@@ -103,6 +104,9 @@ impl Ladder {
     pub fn stride(&self) -> u32
         ensures stride { result ≡ self.now.stride }
         ensures checkpoints { AreCheckpoints self.now }
+
+        // What is kept is bounded, whatever was done with the ladder.
+        ensures bounded { IsLadder self.now }
     {
         self.stride
     }
@@ -288,13 +292,15 @@ impl Ladder {
     /// The former runs, which are then gone. It takes no memory.
     pub fn take_formers(&mut self, alloc: Global) -> Vec<Former>
         ensures formers { result.items ≡ self.old.formers }
+        ensures few { AreFewFormers result.items }
         ensures after { self.new ≡ record self.old { formers = [] } }
     {
         mem::replace(&mut self.formers, Vec::new(alloc))
     }
 
-    /// Makes these the former runs. It takes no memory.
+    /// Makes these the former runs, which are few. It takes no memory.
     pub fn put_formers(&mut self, formers: Vec<Former>)
+        requires few { AreFewFormers formers.items }
         ensures { self.new ≡ record self.old { formers = formers.items } }
     {
         self.formers = formers;

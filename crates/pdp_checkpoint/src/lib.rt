@@ -10,8 +10,9 @@
 //! - At most 256 further states are kept, of turns near those asked about last (`take_near`,
 //!   `drop_near`). The closest state to a turn, of all, is the last at or before it (`closest`).
 //! - A cut drops those above a turn, and no other (`cut`). They can be set aside as a former run,
-//!   whose states are then some of those that were dropped (`set_aside`). A former run says which
-//!   of its states is the last by a turn, and which the first from a turn on (`Former`).
+//!   whose states are then some of those that were dropped (`set_aside`). There are at most two
+//!   former runs, each with at most 512 states (`stride`). A former run says which of its states is
+//!   the last by a turn, and which the first from a turn on (`Former`).
 //! - Other delays are put into the state of turn 0, and the others go (`set_delays`).
 //! - A patch changes a word in each checkpoint up to a turn and drops the other states, or is
 //!   refused and changes nothing. It asks that these checkpoints have the page of the word alike

@@ -5,7 +5,7 @@ use Rattle.pdp_checkpoint.proofs.ladder.Ladder.best.Goals as goal
 best : (c : goal.After-index) → IsBest c.args.self.now c.args.turn c.index.result.now
 best c =
     let l : LadderData = record { kept = c.self.inside.kept.items; stride = c.self.inside.stride; near = c.self.inside.near.items; formers = c.self.inside.formers.items } in
-    rw (← c.self.view_is) (is_best l c.args.turn c.index.result.now c.self.invariant cc)
+    rw (← c.self.view_is) (is_best l c.args.turn c.index.result.now c.self.invariant.checkpoints cc)
 
 pub returns-clause-turn : goal.returns-clause-turn
 returns-clause-turn c = (best c).turn_is
@@ -21,3 +21,6 @@ returns-clause-last c = (best c).last
 
 pub returns-clause-greatest : goal.returns-clause-greatest
 returns-clause-greatest c = (best c).greatest
+
+pub returns-clause-checkpoints : goal.returns-clause-checkpoints
+returns-clause-checkpoints c = rw (← c.self.view_is) c.self.invariant.checkpoints

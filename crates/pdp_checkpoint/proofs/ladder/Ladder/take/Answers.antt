@@ -38,10 +38,10 @@ at_full c =
     rw c.thin.ensures (pushed_at_full c.args.self.now c.args.machine.now.state now c.next-turn.result c.in_ok-saved.saved pushed (omega arith))
 
 pub invariant_of-self-then-len-gt-MOST_KEPT : goal.invariant_of-self-then-len-gt-MOST_KEPT
-invariant_of-self-then-len-gt-MOST_KEPT c = (at_full c).checkpoints
+invariant_of-self-then-len-gt-MOST_KEPT c = record { checkpoints = (at_full c).checkpoints; near = c.self.invariant.near; formers = c.self.invariant.formers }
 
 pub invariant_of-self-else-len-gt-MOST_KEPT : goal.invariant_of-self-else-len-gt-MOST_KEPT
-invariant_of-self-else-len-gt-MOST_KEPT c = (in_room c).checkpoints
+invariant_of-self-else-len-gt-MOST_KEPT c = record { checkpoints = (in_room c).checkpoints; near = c.self.invariant.near; formers = c.self.invariant.formers }
 
 pub returns-then-len-gt-MOST_KEPT-clause-kept : goal.returns-then-len-gt-MOST_KEPT-clause-kept
 returns-then-len-gt-MOST_KEPT-clause-kept c = (at_full c).is
