@@ -1,0 +1,9 @@
+pub mod Registers
+pub mod Same
+pub mod Telling
+pub mod Writes
+pub mod RowMoves
+pub mod RegisterMoves
+pub mod WriteMoves
+pub mod PlanMoves
+pub mod ActionSteps
