@@ -21,3 +21,9 @@ pub mod VirtualReads
 pub mod WordsFound
 pub mod TurnReads
 pub mod TurnAccesses
+pub mod FadedAnswers
+pub mod FadedSearches
+pub mod LoggedCourses
+pub mod LoggedCycles
+pub mod DiskTouches
+pub mod DiskReads

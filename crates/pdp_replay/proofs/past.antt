@@ -10,3 +10,6 @@ pub mod EditedDelays
 pub mod EditedSetups
 pub mod PlacedPatches
 pub mod MoreDrives
+pub mod RestoredPatches
+pub mod RestoredWords
+pub mod RestoredEvents

@@ -22,3 +22,6 @@ pub mod DiskCompletions
 pub mod Fadings
 pub mod Reads
 pub mod Accesses
+pub mod FadedAnswers
+pub mod FadedSearches
+pub mod LoggedCycles

@@ -15,6 +15,7 @@ pub mod Setup
 pub mod FirstWords
 pub mod Image
 pub mod Edit
+pub mod Restored
 
 pub record Past : Type 0 where
   pub setup : SetupData

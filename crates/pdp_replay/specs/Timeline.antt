@@ -4,13 +4,18 @@ use Rattle.std.specs.Prelude.{Result, Ok, Err}
 use Rattle.pdp_script.specs.Refusal.{past_left}
 use Rattle.pdp_unibus.specs.Handbook.LastTurn.{last_turn}
 use Rattle.pdp_script.specs.declared.faults.Fault.{Fault}
+use Rattle.pdp_script.specs.Restore.{turn_before}
+use Rattle.pdp_script.specs.declared.script.EventBefore.{EventBefore}
 use Rattle.pdp_io_page.specs.declared.delays.DelayedDevice.{DelayedDevice}
+use Rattle.pdp_io_page.specs.declared.delays.Delays.{Delays}
 use Rattle.pdp_unibus.specs.declared.event.Event.{Event}
 use Rattle.pdp_store.specs.declared.part.Part.{Part}
 use Rattle.pdp_store.specs.declared.part.Part.TheVariants as part
 use Rattle.pdp_replay.specs.Past.Edit.{core_edit, disk_edit, drives_edit, revert_edit, tape_edit}
 use Rattle.pdp_replay.specs.Past.Edit.{delay_edit, event_insertion, event_alteration, event_drop}
 use Rattle.pdp_replay.specs.Past.Edit.{turn_of_event, lesser_turn, with_patch}
+use Rattle.pdp_replay.specs.Past.Restored.{past_with_delays, past_with_event_restored}
+use Rattle.pdp_replay.specs.Past.Restored.{past_with_tape, past_with_word_restored}
 use Rattle.pdp_replay.specs.Run.FirstTouches.{first_touch}
 use Rattle.pdp_replay.specs.Past.{Past, of_setup, past_without_events}
 use Rattle.pdp_replay.specs.Past.Setup.{SetupData, IsGood}
@@ -18,6 +23,7 @@ use Rattle.pdp_replay.specs.Past.FirstWords.{AllThere}
 use Rattle.pdp_replay.specs.Run.KeptRuns.{IsKeptRun}
 use Rattle.pdp_replay.specs.Run.Strides.{IsStride}
 use Rattle.pdp_store.specs.declared.part.WordAt.{WordAt}
+use Rattle.pdp_replay.specs.declared.past.patch.WordBefore.{WordBefore}
 use Rattle.pdp_replay.specs.declared.run.kept_run.KeptRun.{KeptRun}
 
 -- the past, the known turn, the highest that it has been, the stride, the turns run so far, and the
@@ -129,6 +135,28 @@ event_altered number turn event t =
 abbrev pub event_dropped : ℕ → Timeline → Timeline
 event_dropped number t = after_edit (unwrap_or (turn_of_event number t.past) 0)
     (event_drop number t.past) false t
+
+-- how far back it reaches if a script gets back what it had of an event: to the lesser of the turn
+-- of the event and the one that it had, and no further than the last if there is neither
+abbrev pub turn_restored : EventBefore → Past → ℕ
+turn_restored before p = min (unwrap_or (turn_of_event before.number p) last_turn) (unwrap_or
+    (turn_before before) last_turn)
+
+-- an engine whose past got back what it had of an event, of a word, or of the tape or the delays
+abbrev pub event_restored : EventBefore → Bool → Timeline → Timeline
+event_restored before refused t =
+    after_edit (turn_restored before t.past) (Ok (past_with_event_restored before t.past)) refused t
+
+abbrev pub word_restored : WordBefore → Bool → Timeline → Timeline
+word_restored before refused t =
+    after_setup_edit (reached_in before.at.part before.at.number t)
+    (Ok (past_with_word_restored before t.past)) refused t
+
+abbrev pub tape_restored : List ℕ → Timeline → Timeline
+tape_restored tape t = after_setup_edit 0 (Ok (past_with_tape tape t.past)) false t
+
+abbrev pub delays_restored : Delays → Timeline → Timeline
+delays_restored delays t = after_setup_edit 0 (Ok (past_with_delays delays t.past)) false t
 
 -- what every engine keeps: a setup that a run can start from, patches of words that are there, what
 -- it knows, the stride that belongs to the highest turn known, and of the run all that ought to be

@@ -12,9 +12,16 @@ ghost use Rattle.pdp_replay.specs.Past.FirstWords.{CoreWordsAreFirstWords, DiskW
 ghost use Rattle.pdp_replay.specs.Past.FirstWords.{DrivesAreByNumber, DrivesAreSoMany};
 ghost use Rattle.pdp_replay.specs.Past.Edit.{AlterationNeedsNoMemory, DropNeedsNoMemory};
 ghost use Rattle.pdp_replay.specs.Past.Edit.{TapeNeedsNoMemory, DelayNeedsNoMemory};
+ghost use Rattle.pdp_replay.specs.Past.Restored.{PatchIsTakenBack, ReversionIsTakenBack};
+ghost use Rattle.pdp_replay.specs.Past.Restored.{RestoredPatchesAreUndone};
+ghost use Rattle.pdp_replay.specs.Ask.FadedAnswers.{EditsLeaveWhatCanBeAsked};
+ghost use Rattle.pdp_replay.specs.Ask.FadedAnswers.{FadedEditsChangeNoAnswer};
+ghost use Rattle.pdp_replay.specs.Ask.FadedSearches.{FadedEditsChangeNoSearch};
 ghost use Rattle.pdp_replay.specs.Ask.Fadings.{JoinedIsDecided, JoinedStayJoined};
 ghost use Rattle.pdp_replay.specs.Ask.LastWrites.{StampsOfCheckpointsAreLastWrites};
 ghost use Rattle.pdp_replay.specs.Ask.LastWrites.{StampsOfStatesAreLastWrites};
+ghost use Rattle.pdp_replay.specs.Ask.LoggedCycles.{CyclesAreListed, DiskReadsAreTraced};
+ghost use Rattle.pdp_replay.specs.Ask.LoggedCycles.{TurnsAreLogged};
 ghost use Rattle.pdp_replay.specs.Ask.VirtualReads.{VirtualWordsAreRead};
 ghost use Rattle.pdp_replay.specs.Run.States.{TextOnlyGrows, PunchedOnlyGrows};
 
@@ -50,6 +57,16 @@ pub fn some_edits_need_no_memory()
     ensures drop { DropNeedsNoMemory }
     ensures tape { TapeNeedsNoMemory }
     ensures delay { DelayNeedsNoMemory }
+{}
+
+/// A law of edits: what the patches had of a word takes a patch of the word back exactly, and a
+/// patch less, and what they had of it before that makes it again.
+///
+/// [P]
+pub fn patches_are_taken_back()
+    ensures patched { PatchIsTakenBack }
+    ensures reverted { ReversionIsTakenBack }
+    ensures undone { RestoredPatchesAreUndone }
 {}
 
 /// A law of runs: what was printed on the console before a turn begins what was printed before each
@@ -162,6 +179,34 @@ pub fn adopted_runs_go_on()
 pub fn joined_runs_stay_joined()
     ensures stay { JoinedStayJoined }
     ensures decided { JoinedIsDecided }
+{}
+
+/// A law of edits: one that fades by a turn, as [`Engine::fades`] tells it, changes no answer that
+/// needs no earlier turn. What was printed and punched until then may differ, and from then on both
+/// texts grow by the same bytes; and a write of that turn or of a later one is the last write to a
+/// word in both runs or in neither. Nor does it change what searches find from that turn on, the
+/// lists of accesses and the counts of instructions. Whether an edit fades or not, what can be
+/// asked stays.
+///
+/// [`Engine::fades`]: crate::Engine::fades
+///
+/// [P]
+pub fn faded_edits_change_no_answer()
+    ensures answers { FadedEditsChangeNoAnswer }
+    ensures searches { FadedEditsChangeNoSearch }
+    ensures asked { EditsLeaveWhatCanBeAsked }
+{}
+
+/// A law of logs: a turn tells a log of its cycles in their order, and does the same whatever log
+/// is kept. The cycles in core are all accesses of the turn's trace after those of the disk, with
+/// which the turn begins. The cycles that are listed of a turn of a run are the first 257 of them.
+/// The disk is said to read a word of core exactly if the trace has that read.
+///
+/// [P]
+pub fn logged_cycles_are_traced()
+    ensures turns { TurnsAreLogged }
+    ensures listed { CyclesAreListed }
+    ensures disk { DiskReadsAreTraced }
 {}
 
 /// A law of virtual addresses: a word that an answer tells is what a bus cycle (DATI) reads at the

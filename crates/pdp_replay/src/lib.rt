@@ -23,21 +23,26 @@
 //!   [`Engine::turn_of_byte`] the turn in which a byte was printed or punched, for every past and
 //!   whatever is kept. [`Engine::text_from`] returns what was printed or punched before a turn,
 //!   from one of its bytes on. [`Engine::accesses`] lists what some turns have in them, with each
-//!   cycle of the processor on the bus. The turns run for them are bounded, also if memory is
-//!   refused: those of `last_at` are the ones from the turn found on and two strides, where they
-//!   were known.
+//!   cycle of the processor on the bus; those in core are the accesses of the turn's trace after
+//!   those of the disk (`logged_cycles_are_traced`). The turns run for them are bounded, also if
+//!   memory is refused: those of `last_at` are the ones from the turn found on and two strides,
+//!   where they were known.
 //! - **Counts**: [`Engine::counts`] returns for each of some words of virtual addresses how many
 //!   turns began an instruction there, in the mode that is given. It runs each of the turns once.
 //! - **An edit that fades**: [`Engine::fades`] returns the least turn from which on the run with an
 //!   edit of the script, or with a word patched, would be the run as it is: the same state, except
 //!   for stamps and what came out, and the same events from then on. Runs that are one so stay one
-//!   (`joined_runs_stay_joined`).
+//!   (`joined_runs_stay_joined`): from that turn on the edit changes no answer, no search, no count
+//!   and no list, except for bytes and last writes from before it (`faded_edits_change_no_answer`).
 //! - Core and each drive as of power-up have each word's patch, else the word of the image, else 0
 //!   (`core_words_are_first_words`, `disk_words_are_first_words`).
 //! - Each edit with its refusals in their order, what it leaves, and how far back it lowers the
 //!   known turn; no edit runs a turn (`set_core`, `revert_core`, `set_disk`, `use_eight_drives`,
 //!   `set_tape`, `set_delay`, `insert`, `alter`, `drop_event`). Patches keep the place in which
 //!   they were first given (`patch`, `patch_count`).
+//! - What the past had of an event, a word, the tape or the delays can be given back to it, exactly
+//!   (`restore_event`, `restore_word`, `restore_tape`, `restore_delays`,
+//!   `patches_are_taken_back`), as far back as an edit of it reaches.
 //! - A patch of a word lowers the known turn to the first turn that accesses the page of the word,
 //!   and no further. Up to there the states of the run differ in that word alone
 //!   (`patches_reach_the_first_touch`, `first_touches_are_told`,
@@ -76,14 +81,15 @@ pub use ask::{
 pub use engine::Engine;
 pub use laws::{
     adopted_runs_go_on, core_words_are_first_words, disk_words_are_first_words, equal_stays_equal,
-    first_touches_are_taken, first_touches_are_told, joined_runs_stay_joined,
+    faded_edits_change_no_answer, first_touches_are_taken, first_touches_are_told,
+    joined_runs_stay_joined, logged_cycles_are_traced, patches_are_taken_back,
     patches_reach_the_first_touch, saved_machines_are_taken, some_edits_need_no_memory,
     stamps_of_states_are_last_writes, texts_only_grow, turns_run_again_touch_nothing_new,
     untouched_pages_are_alike, virtual_words_are_read,
 };
-pub use past::{DEFAULT_STRIDE, PastEdit, Patch, Setup, SetupNumbers};
+pub use past::{DEFAULT_STRIDE, PastEdit, Patch, Setup, SetupNumbers, WordBefore};
 pub use pdp_cpu::{Act, DeviceRegisters, PageRegisters, Regs, RunState};
 pub use pdp_io_page::{DelayedDevice, Delays};
-pub use pdp_script::{Entry, Fault, ScriptEdit};
+pub use pdp_script::{Entry, EventBefore, Fault, ScriptEdit};
 pub use pdp_store::Agent;
 pub use pdp_unibus::Event;

@@ -21,7 +21,7 @@ pub too_large : (edit : PastEdit) (to : ℕ) (p : Past) → last_turn < to → f
 unfolding fading
 too_large edit to p late = let beyond = lt-leb to last_turn late in rw beyond refl
 
-fading_is : (edit : PastEdit) (to : ℕ) (p q : Past) → to ≤ last_turn → past_edit edit p ≡ Ok q → fading edit to p ≡ Ok (joined_by to p q)
+pub fading_is : (edit : PastEdit) (to : ℕ) (p q : Past) → to ≤ last_turn → past_edit edit p ≡ Ok q → fading edit to p ≡ Ok (joined_by to p q)
 unfolding fading
 fading_is edit to p q range is = let within = le-leb to last_turn range in rw (within, is) refl
 

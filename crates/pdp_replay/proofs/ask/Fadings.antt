@@ -75,7 +75,7 @@ pub events_later : (p q : Past) (n k : ℕ) → n ≤ k → events_from p.script
 events_later p q n k le same =
     later_of_later p.script.entries n k le ∙ ap (filter (λ x. leb k x.0)) same ∙ sym (later_of_later q.script.entries n k le)
 
-same_inputs : (p q : Past) (n : ℕ) → p.setup.tape ≡ q.setup.tape → events_from p.script.entries n ≡ events_from q.script.entries n → SameInputsFrom n p q
+pub same_inputs : (p q : Past) (n : ℕ) → p.setup.tape ≡ q.setup.tape → events_from p.script.entries n ≡ events_from q.script.entries n → SameInputsFrom n p q
 same_inputs p q n tape same = record {
   tape = tape;
   events = λ t le. at_of_later p.script.entries n t le ∙ ap (λ l. map (λ x. x.1) (filter (λ x. eqb x.0 t) l)) same ∙ sym (at_of_later q.script.entries n t le);

@@ -1,5 +1,5 @@
 -- What some turns have in them, turn by turn.
-use Rattle.std.proofs.Common.{suc, zero, ◌≡◌, ◌∙◌, ℕ, ◌+◌, ◌-◌, ◌<◌, ◌≤◌, ◌++◌, ◌∷◌, [], Bool, true, false, List, length, drop, map, take, get_or, nat_le, add-one, ap, ap₂, arith, if◌then◌else◌, option_to_list, refl, sym}
+use Rattle.std.proofs.Common.{suc, ◌≡◌, ◌∙◌, ℕ, ◌+◌, ◌-◌, ◌<◌, ◌≤◌, ◌++◌, ◌∷◌, [], true, false, List, length, drop, map, take, get_or, nat_le, add-one, ap, ap₂, arith, if◌then◌else◌, option_to_list, refl, sym}
 use Rattle.std.proofs.Math.Seq.{drop-append_seam, take-suc}
 use Rattle.std.proofs.lemmas.Bool.{le-leb, lt-leb}
 use Rattle.std.proofs.lemmas.List.{append_assoc, drop-map, get_or-map, length-drop, length-map, take_all}
@@ -16,7 +16,7 @@ use Rattle.pdp_script.specs.Entries.{events_at}
 use Rattle.pdp_script.specs.Script.{ScriptData}
 use Rattle.pdp_replay.specs.Past.{Past}
 use Rattle.pdp_replay.specs.Run.States.{at, state_at}
-use Rattle.pdp_replay.specs.Ask.Accesses.{completion_detail_if, cycles_in, details_in, details_in_turns, details_of, log_of_all, turn_head, turns_within}
+use Rattle.pdp_replay.specs.Ask.Accesses.{completion_detail_if, cycles_in, details_in, details_in_turns, details_of, log_of_all, turns_within}
 use Rattle.pdp_replay.specs.Ask.DiskCompletions.{has_completion}
 use Rattle.pdp_replay.specs.Ask.Reads.{IsLoggedState}
 use Rattle.pdp_replay.specs.declared.ask.accesses.TurnDetail.{TurnDetail}

@@ -38,7 +38,7 @@ use Rattle.pdp_replay.proofs.run.RunFirstTouches.{first_touches_cut, first_touch
 use Rattle.pdp_replay.proofs.run.SamePages.{kept_have_page}
 use Rattle.pdp_replay.proofs.run.Untouched.{first_touch_le}
 
-abbrev past_of : SetupData → ScriptData → Past
+abbrev pub past_of : SetupData → ScriptData → Past
 past_of setup script = record { setup = setup; script = script }
 
 -- a word that is there is in each saved state of a run
@@ -59,11 +59,11 @@ pub word_kept : (p : Past) (known : ℕ) (l : LadderData) (k : WordAt) → AreSt
     → All (λ c. HasWord k c.saved) l.kept
 word_kept p known l k are inside = λ i d below. rw (are.states i d below) (word_saved p _ k.part k.number inside)
 
-abbrev with_those_patches : Patches → SetupData → SetupData
+abbrev pub with_those_patches : Patches → SetupData → SetupData
 with_those_patches patches s = record s { patches = patches }
 
 -- the world as of power-up over these words
-abbrev power_over : SetupData → List ℕ → List (List ℕ) → World
+abbrev pub power_over : SetupData → List ℕ → List (List ℕ) → World
 power_over s core drives = world_at_power_up s.start core (replicate (core_size s) None) drives s.tape s.delays
 
 powers_with_core : (s : SetupData) (i word : ℕ) → i < core_size s → PowersWith parts.Core i word s (patched s (word_at parts.Core i) word)
@@ -73,7 +73,7 @@ powers_with_core s i word inside = record {
   there = rw (core_has_size s) inside;
 }
 
-length_at : (s : SetupData) (drive : ℕ) → drive < s.drives → length (slice_index_or (drives_words s) drive []) ≡ drive_words
+pub length_at : (s : SetupData) (drive : ℕ) → drive < s.drives → length (slice_index_or (drives_words s) drive []) ≡ drive_words
 length_at s drive there = ap length (drive_by_number s drive there) ∙ drive_has_size s drive
 
 powers_with_disk : (s : SetupData) (drive i word : ℕ) → drive < s.drives → i < drive_words
@@ -135,7 +135,7 @@ pages_kept p k highest r engine inside =
     kept_have_page k.part k.number p r.known (reached_by k r) r.ladder engine.run.kept.states (omega (arith, first))
 
 -- with other patches, which change one word as of power-up
-engine_repatched : (p : Past) (patches : Patches) (k : WordAt) (word highest : ℕ) (before after : KeptRun)
+pub engine_repatched : (p : Past) (patches : Patches) (k : WordAt) (word highest : ℕ) (before after : KeptRun)
     → IsEngine p highest before → AllThere p.setup patches → IsThere p.setup k
     → PowersWith k.part k.number word p.setup (with_those_patches patches p.setup)
     → IsPatchedRun k word before after

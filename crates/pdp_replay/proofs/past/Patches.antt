@@ -1,6 +1,6 @@
 -- What holds of every patch, also after an edit.
 use Rattle.std.proofs.Common.{◌≡◌, ◌<◌, ◌≤◌, ◌*◌, ℕ, suc, zero, Bool, true, false, cond, Some, subst, [], ◌∷◌, slice_get, arith, if◌then◌else◌}
-use Rattle.std.specs.List.{All}
+use Rattle.std.specs.List.{All, insert}
 use Rattle.indexmap.specs.IndexMap.{insert_entry, shift_remove_entry}
 use Rattle.std.proofs.lemmas.List.Elements.{All-cons, All-tail}
 use Rattle.pdp_replay.specs.Past.FirstWords.{AllThere, IsThere, PartHasWord}
@@ -58,6 +58,14 @@ there_removed s test [] there = none_good (is_there s)
 there_removed s test (p ∷ ps) there =
     let rest : AllThere s ps = rest_good (is_there s) p ps there in
     good_taken (is_there s) (test p.0) p ps (shift_remove_entry test ps) (first_good (is_there s) p ps there) rest (there_removed s test ps rest)
+
+-- and putting one in at some place
+pub there_put : (s : SetupData) (ps : Patches) (i : ℕ) (k : WordAt) (word : ℕ) → IsThere s k → AllThere s ps → AllThere s (insert ps i (k, word))
+there_put s ps zero k word here there = both_good (is_there s) (k, word) ps here there
+there_put s [] (suc i) k word here there = both_good (is_there s) (k, word) [] here (none_good (is_there s))
+there_put s (p ∷ ps) (suc i) k word here there =
+    both_good (is_there s) p (insert ps i (k, word)) (first_good (is_there s) p ps there)
+    (there_put s ps i k word here (rest_good (is_there s) p ps there))
 
 pub entry_there : (s : SetupData) (ps : Patches) (i : ℕ) (p : WordAt × ℕ) → AllThere s ps → slice_get ps i ≡ Some p → IsThere s p.0
 entry_there s ps i p there is = entry_good (is_there s) ps i p there is

@@ -25,7 +25,7 @@ same_part (parts.Drive d) (parts.Drive e) is = ap parts.Drive (eqb-true d e is)
 same_part parts.Core (parts.Drive e) is = absurd cc
 same_part (parts.Drive d) parts.Core is = absurd cc
 
-same_word : (k other : WordAt) → is_same_word k other ≡ true → k ≡ other
+pub same_word : (k other : WordAt) → is_same_word k other ≡ true → k ≡ other
 same_word k other is =
     let both = both_true (is_same_part k.part other.part) (nat_eq k.number other.number) is in
     ap₂ word_at (same_part k.part other.part both.0) (eqb-true k.number other.number both.1)
@@ -34,7 +34,7 @@ part_itself : (part : Part) → is_same_part part part ≡ true
 part_itself parts.Core = refl
 part_itself (parts.Drive d) = eq-eqb d d refl
 
-itself : (k : WordAt) → is_same_word k k ≡ true
+pub itself : (k : WordAt) → is_same_word k k ≡ true
 itself k = ap₂ ◌&&◌ (part_itself k.part) (eq-eqb k.number k.number refl)
 
 -- one patch more: its word has it, and no other word another one
@@ -65,7 +65,7 @@ put_elsewhere (p ∷ ps) k q word other =
     put_first_elsewhere p ps k q word other (is_same_word k p.0) (is_same_word q p.0) refl refl (put_elsewhere ps k q word other)
 
 -- a patch less
-abbrev taken : Patches → WordAt → Patches
+abbrev pub taken : Patches → WordAt → Patches
 taken ps k = shift_remove_entry (is_same_word k) ps
 
 taken_first_elsewhere : (p : WordAt × ℕ) (ps : Patches) (k q : WordAt) → is_same_word q k ≡ false → (same found : Bool)
@@ -77,13 +77,13 @@ taken_first_elsewhere p ps k q other true false is missed later = simp (is, miss
 taken_first_elsewhere p ps k q other false true is met later = simp (is, met) refl
 taken_first_elsewhere p ps k q other false false is missed later = simp (is, missed) later
 
-taken_elsewhere : (ps : Patches) (k q : WordAt) → is_same_word q k ≡ false → patch_of (taken ps k) q ≡ patch_of ps q
+pub taken_elsewhere : (ps : Patches) (k q : WordAt) → is_same_word q k ≡ false → patch_of (taken ps k) q ≡ patch_of ps q
 taken_elsewhere [] k q other = refl
 taken_elsewhere (p ∷ ps) k q other =
     taken_first_elsewhere p ps k q other (is_same_word k p.0) (is_same_word q p.0) refl refl (taken_elsewhere ps k q other)
 
 -- what is listed by number, of which one is another, and of which none is
-changed_at : {X : Type 0} (blank : X) (value now : ℕ → X) (size i : ℕ) (x : X) → i < size → now i ≡ x
+pub changed_at : {X : Type 0} (blank : X) (value now : ℕ → X) (size i : ℕ) (x : X) → i < size → now i ≡ x
     → ((number : ℕ) → nat_eq number i ≡ false → now number ≡ value number)
     → map now (range_with_len 0 size) ≡ slice_set (map value (range_with_len 0 size)) i x
 changed_at {X} blank value now size i x inside here elsewhere =
@@ -108,17 +108,17 @@ changed_at {X} blank value now size i x inside here elsewhere =
         ∙ get_or-map-range_with_len value 0 size number number blank below (omega arith)
         ∙ sym (elsewhere number is)
 
-one_changed : (value now : ℕ → ℕ) (size i word : ℕ) → i < size → now i ≡ word
+pub one_changed : (value now : ℕ → ℕ) (size i word : ℕ) → i < size → now i ≡ word
     → ((number : ℕ) → nat_eq number i ≡ false → now number ≡ value number)
     → words_by_number now size ≡ slice_set (words_by_number value size) i word
 unfolding words_by_number
 one_changed value now size i word inside here elsewhere = changed_at 0 value now size i word inside here elsewhere
 
-same_lists : {X : Type 0} (value now : ℕ → X) (numbers : List ℕ) → ((number : ℕ) → now number ≡ value number) → map now numbers ≡ map value numbers
+pub same_lists : {X : Type 0} (value now : ℕ → X) (numbers : List ℕ) → ((number : ℕ) → now number ≡ value number) → map now numbers ≡ map value numbers
 same_lists value now [] same = refl
 same_lists value now (number ∷ numbers) same = ap₂ (λ x xs. x ∷ xs) (same number) (same_lists value now numbers same)
 
-none_changed : (value now : ℕ → ℕ) (size : ℕ) → ((number : ℕ) → now number ≡ value number) → words_by_number now size ≡ words_by_number value size
+pub none_changed : (value now : ℕ → ℕ) (size : ℕ) → ((number : ℕ) → now number ≡ value number) → words_by_number now size ≡ words_by_number value size
 none_changed value now size same =
     sym (filled_by_number now (words_by_number value size) size (length_by_number value size)
     (λ number below. word_by_number value size number below ∙ sym (same number)))

@@ -1,5 +1,5 @@
 -- A run and a branch beside each other: what both keep, and what their comparison tells.
-use Rattle.std.proofs.Common.{◌≡◌, ◌∙◌, ◌*◌, ◌≤◌, ℕ, ap, arith, length, map, max, refl, replicate, subst, sym}
+use Rattle.std.proofs.Common.{◌≡◌, ◌∙◌, ◌-◌, ◌*◌, ◌≤◌, ℕ, ap, arith, length, map, max, refl, replicate, subst, sym}
 use Rattle.pdp_unibus.specs.SavedBusData.{HasSizesOf}
 use Rattle.pdp_cpu.specs.Saved.{CanHold, SavedMachineData, saved_machine, state_on}
 use Rattle.pdp_cpu.specs.Handbook.MachineState.{MachineState, MachineWithTexts}
@@ -7,7 +7,7 @@ use Rattle.pdp_replay.specs.Past.{Past}
 use Rattle.pdp_replay.specs.Past.Setup.{drive_words, unit_words}
 use Rattle.pdp_replay.specs.Run.Branches.{IsBranchOf, IsBranchAt, IsLookedAt}
 use Rattle.pdp_replay.specs.Run.Checkpoints.{KeepsTexts}
-use Rattle.pdp_replay.specs.Run.KeptRuns.{Advances, IsKeptRun}
+use Rattle.pdp_replay.specs.Run.KeptRuns.{Advances, CountsTurns, IsKeptRun, MetersTurns}
 use Rattle.pdp_replay.specs.Run.States.{at}
 use Rattle.pdp_replay.specs.declared.run.branch.Branch.{Branch}
 use Rattle.pdp_replay.specs.declared.run.kept_run.KeptRun.{KeptRun}
@@ -29,6 +29,15 @@ fits_beside p q k n m saved units drives here is =
 -- what is kept of a run stays so whatever its meter counts
 pub kept_metered : (p : Past) (r : KeptRun) (counted : ℕ) → IsKeptRun p r → IsKeptRun p (record r { meter = counted })
 kept_metered p r counted run = record { kept = run.kept; current = run.current }
+
+-- a meter that counted turns grows
+pub meter_grows : (turns before after : ℕ) → MetersTurns turns before after → before ≤ after
+meter_grows turns before after ran = omega (arith, ran)
+
+-- a meter that grew, counted the turns from one to another, and then grew
+pub counts_on : (from came to before metered counted after : ℕ) → before ≤ metered → came ≡ to → MetersTurns (came - from) metered counted → counted ≤ after
+    → CountsTurns (to - from) before after
+counts_on from came to before metered counted after grew there ran more = omega (arith, grew, there, ran, more)
 
 -- the state of a branch that came to a turn
 pub state_of_branch : (q : Past) (b : Branch) (turn : ℕ) (saved : SavedMachineData) → IsBranchOf q b → b.machine.state.turn ≡ turn

@@ -9,6 +9,11 @@ use Rattle.pdp_store.specs.declared.part.Part.{Part}
 use Rattle.pdp_store.specs.declared.part.Part.TheVariants.{Core, Drive}
 use Rattle.pdp_store.specs.declared.part.WordAt.{WordAt}
 
+-- the word of an image, of core or of a drive; 0 past its end
+abbrev pub image_word : List ℕ → List (List ℕ) → Part → ℕ → ℕ
+image_word core disks Core number = slice_index core number
+image_word core disks (Drive drive) number = slice_index (image_of disks drive) number
+
 -- the first value of a core word: its patch, else its image's word, else 0 [7.5]
 abbrev pub first_core_word : SetupData → ℕ → ℕ
 first_core_word s number = unwrap_or (patch_of s.patches (word_at Core number))

@@ -34,6 +34,10 @@ pub record IsUnderWay (p : Past) (known : ℕ) (m : MachineWithTexts) : Type 0 w
 abbrev pub MetersTurns : ℕ → ℕ → ℕ → Type 0
 MetersTurns turns before after = after ≡ min (before + turns) (max before (2 ^ 64 - 1))
 
+-- it counted at least so many
+abbrev pub CountsTurns : ℕ → ℕ → ℕ → Type 0
+CountsTurns turns before after = min (before + turns) (max before (2 ^ 64 - 1)) ≤ after
+
 -- A machine was run from one state to another, of turn `to` at the latest, and a meter from one
 -- count to another: it counted each turn that was run.
 pub record RunsUpTo (to : ℕ) (before after : MachineWithTexts) (metered counted : ℕ) : Type 0 where

@@ -1,8 +1,10 @@
 //! From which turn on the run with an edit would be the run without it.
 
-ghost use Rattle.std.specs.Prelude.{◌≡◌, ◌<◌, ◌≤◌, ℕ, false, IfOk, IsErr};
+ghost use Rattle.std.specs.Prelude.{◌≡◌, ◌-◌, ◌<◌, ◌≤◌, ℕ, false, IfOk, IsErr, OnOk};
 ghost use Rattle.pdp_cpu.specs.Saved.{saved_machine};
 ghost use Rattle.pdp_script.specs.Refusal.{for_memory, question_answer, result_map};
+ghost use Rattle.pdp_replay.specs.Ask.FadedAnswers.{ChangesNoAnswer};
+ghost use Rattle.pdp_replay.specs.Ask.FadedSearches.{ChangesNoSearch};
 ghost use Rattle.pdp_replay.specs.Ask.Fadings.{fading, joined_by, AreApart, AreBesideIn, IsBracket};
 ghost use Rattle.pdp_replay.specs.Ask.Fadings.{IsBracketOrNone, IsEdge};
 ghost use Rattle.pdp_replay.specs.Ask.Known.{LeavesPast};
@@ -10,7 +12,7 @@ ghost use Rattle.pdp_replay.specs.Ask.Told.{IsToldOf};
 ghost use Rattle.pdp_replay.specs.Past.{Past};
 ghost use Rattle.pdp_replay.specs.Run.Branches.{AreBeside, AreBesideAt, IsKeptOfSize, IsLookedAt};
 ghost use Rattle.pdp_replay.specs.Run.Branches.{IsRunOfSize, KeepsBranch, SameEventsBefore};
-ghost use Rattle.pdp_replay.specs.Run.KeptRuns.{KeepsRun};
+ghost use Rattle.pdp_replay.specs.Run.KeptRuns.{CountsTurns, KeepsRun};
 ghost use Rattle.pdp_replay.specs.Run.States.{at};
 
 use crate::ask::Told;
@@ -54,6 +56,10 @@ impl Engine {
     ) -> Result<Told<Option<u32>>, Fault>
         ensures turn { result_map (λ f. f.value) result
             ≡ question_answer (fading edit to self.old.past) (for_memory result) }
+
+        // From that turn on the edit changes no answer, and nothing that a search finds.
+        ensures answers { IfOk result (λ f. ChangesNoAnswer edit self.old.past f.value) }
+        ensures searches { IfOk result (λ f. ChangesNoSearch edit self.old.past f.value) }
 
         // What it leaves is what a question about turn `to` leaves.
         ensures leaves { LeavesPast to self.old self.new }
@@ -158,6 +164,8 @@ pub(crate) fn find_edge(
         → AreApart apart p q script.now run.old branch.old → found ≡ joined_by to p q) }
     ensures kept { KeepsRun script.now run.old run.new }
     ensures looked { IsLookedAt to run.old run.new }
+    ensures counted { OnOk result (CountsTurns (apart - branch.old.machine.state.turn)
+        run.old.meter run.new.meter) }
 {
     branch.run(&run.forms, &mut run.meter, apart)?;
     let state = branch.machine.save(alloc)?;

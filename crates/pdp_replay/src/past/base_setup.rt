@@ -1,7 +1,10 @@
-ghost use Rattle.std.specs.Prelude.{◌≡◌, slice_index};
+ghost use Rattle.std.specs.Prelude.{◌≡◌, slice_index, unwrap_or};
+ghost use Rattle.std.specs.Option.{option_map};
+ghost use Rattle.pdp_replay.specs.Past.FirstWords.{image_word};
 ghost use Rattle.pdp_replay.specs.Past.Setup.{drive_count, image_of, images_of};
 
 use crate::past::MOST_DRIVES;
+use pdp_store::{Part, WordAt};
 
 /// How many drives a run has [6.66].
 #[derive(Clone, Copy)]
@@ -58,6 +61,33 @@ impl BaseSetup {
         match self.disks.get(drive) {
             Some(image) => image.as_slice(),
             None => &[],
+        }
+    }
+
+    /// The word of an image, of core or of a drive; 0 past its end.
+    fn image_word(&self, at: WordAt) -> u16
+        ensures { result ≡ image_word self.now.core.items (images_of self.now.disks.items)
+            at.part at.number }
+    {
+        match at.part {
+            Part::Core => self.core.get(at.number).copied().unwrap_or(0),
+            Part::Drive(drive) => self
+                .image(usize::from(drive))
+                .get(at.number)
+                .copied()
+                .unwrap_or(0),
+        }
+    }
+
+    /// The value of a word as of power-up, with this patch at its place among all, if it has one.
+    pub(crate) fn first_word(&self, at: WordAt, patch: Option<(usize, u16)>) -> u16
+        ensures { result ≡ unwrap_or (option_map (λ p. p.1) patch)
+            (image_word self.now.core.items (images_of self.now.disks.items) at.part
+            at.number) }
+    {
+        match patch {
+            Some((_, word)) => word,
+            None => self.image_word(at),
         }
     }
 }

@@ -1,11 +1,17 @@
-ghost use Rattle.std.specs.Prelude.{◌≡◌, IfOk};
+ghost use Rattle.std.specs.Option.{option_map};
+ghost use Rattle.std.specs.Prelude.{◌≡◌, ◌<◌, IfOk, None};
+ghost use Rattle.indexmap.specs.IndexMap.{spare};
 ghost use Rattle.pdp_script.specs.Refusal.{result_map};
 ghost use Rattle.pdp_replay.specs.Past.{Past};
 ghost use Rattle.pdp_replay.specs.Past.Edit.{past_with_patch, patch_edit};
 ghost use Rattle.pdp_replay.specs.Past.FirstWords.{IsThere};
+ghost use Rattle.pdp_replay.specs.Past.PatchedWords.{patch_of};
+ghost use Rattle.pdp_replay.specs.Past.Restored.{ArePatchedOnce, patch_before, patches_restored};
+ghost use Rattle.pdp_replay.specs.Past.Restored.{with_patch_back};
 ghost use Rattle.pdp_replay.specs.Past.Setup.{IsOfSize};
 
 use crate::past::{BaseSetup, core_word, disk_word};
+use indexmap::IndexMap;
 use pdp_script::Fault;
 use pdp_store::{Part, WordAt};
 
@@ -41,4 +47,57 @@ impl Patch {
             }
         }
     }
+}
+
+/// What a past has of the patch of a word: its place among all patches, with its value, if the word
+/// has one. From before an edit of the word it takes the edit back, and from after the edit it makes
+/// the edit again [P].
+#[derive(Clone, Copy)]
+pub struct WordBefore {
+    /// The word.
+    pub at: WordAt,
+    /// The place of its patch among all, counted from 0, with the value.
+    pub was: Option<(usize, u16)>,
+}
+
+/// The place of the patch of a word among all, with its value. None if the word has none.
+pub(crate) fn find_patch(patches: &IndexMap<WordAt, u16>, at: WordAt) -> Option<(usize, u16)>
+    ensures place { result ≡ patch_before at patches.now.entries }
+    ensures once { ArePatchedOnce patches.now.entries }
+{
+    if patches.len() == 0 {
+        return None;
+    }
+    match patches.get_full(&at) {
+        Some((place, _, word)) => Some((place, *word)),
+        None => None,
+    }
+}
+
+/// Gives the patches back what they had of a word, in the room that is there.
+pub(crate) fn restore_patch(
+    patches: &mut IndexMap<WordAt, u16>,
+    at: WordAt,
+    was: Option<(usize, u16)>,
+)
+    requires room { 0 < spare patches.old }
+    ensures entries { patches.new.entries ≡ patches_restored at was patches.old.entries }
+    ensures word { patch_of patches.new.entries at ≡ option_map (λ p. p.1) was }
+{
+    patches.shift_remove(&at);
+    put_patch(patches, at, was);
+}
+
+/// Puts the patch of a word at its place again, if it had one, in the room that is there.
+fn put_patch(patches: &mut IndexMap<WordAt, u16>, at: WordAt, was: Option<(usize, u16)>)
+    requires none { patch_of patches.old.entries at ≡ None }
+    requires room { 0 < spare patches.old }
+    ensures entries { patches.new.entries ≡ with_patch_back at was patches.old.entries }
+    ensures word { patch_of patches.new.entries at ≡ option_map (λ p. p.1) was }
+{
+    let Some((place, word)) = was else {
+        return;
+    };
+    let place = place.min(patches.len());
+    patches.shift_insert(place, at, word).unwrap();
 }

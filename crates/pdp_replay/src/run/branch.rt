@@ -1,6 +1,6 @@
 //! Branches: a second machine, which runs on from a state of the run with another script.
 
-ghost use Rattle.std.specs.Prelude.{◌≡◌, ◌+◌, ◌≤◌, length, map, min, replicate, IfOk, OnOk};
+ghost use Rattle.std.specs.Prelude.{◌≡◌, ◌+◌, ◌-◌, ◌≤◌, length, map, min, replicate, IfOk, OnOk};
 ghost use Rattle.pdp_store.specs.Stored.{no_touch_in};
 ghost use Rattle.pdp_replay.specs.Past.{Past};
 ghost use Rattle.pdp_replay.specs.Past.Edit.{past_with_patch};
@@ -8,7 +8,7 @@ ghost use Rattle.pdp_replay.specs.Run.Branches.{AreBeside, BranchesOff, Compares
 ghost use Rattle.pdp_replay.specs.Run.Branches.{IsBranchAt, IsBranchOf, IsLookedAt, IsRunOfSize};
 ghost use Rattle.pdp_replay.specs.Run.Branches.{IsSomewhereUntouched, IsUntouchedBranch};
 ghost use Rattle.pdp_replay.specs.Run.Branches.{KeepsBranch, WasAt};
-ghost use Rattle.pdp_replay.specs.Run.KeptRuns.{KeepsRun};
+ghost use Rattle.pdp_replay.specs.Run.KeptRuns.{CountsTurns, KeepsRun, RunsUpTo};
 
 use crate::past::{BaseSetup, DRIVE_WORDS, UNIT_WORDS};
 use crate::run::{KeptRun, run_part};
@@ -51,7 +51,7 @@ impl Branch {
         requires limit { to ≤ LAST_TURN }
         ensures branch { KeepsBranch self.old self.new }
         ensures turn { OnOk result (self.new.machine.state.turn ≡ to) }
-        ensures counted { meter.old ≤ meter.new }
+        ensures runs { RunsUpTo to self.old.machine self.new.machine meter.old meter.new }
     {
         run_part(&mut self.machine, words, &self.script, meter, to)
     }
@@ -146,6 +146,8 @@ impl KeptRun {
         ensures branch { KeepsBranch branch.old branch.new }
         ensures turn { OnOk result (branch.new.machine.state.turn ≡ turn) }
         ensures looked { IsLookedAt turn self.old self.new }
+        ensures counted { OnOk result (CountsTurns (turn - branch.old.machine.state.turn)
+            self.old.meter self.new.meter) }
     {
         self.reach(alloc, script, turn)?;
         branch.run(&self.forms, &mut self.meter, turn)?;

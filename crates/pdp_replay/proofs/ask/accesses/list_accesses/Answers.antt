@@ -1,4 +1,4 @@
-use Rattle.std.proofs.Common.{◌∙◌, ◌+◌, ◌-◌, ◌<◌, ◌++◌, ap, arith, length, refl, sym}
+use Rattle.std.proofs.Common.{◌∙◌, ◌-◌, ◌<◌, ◌++◌, ap, arith, length, refl, sym}
 use Rattle.pdp_script.specs.Entries.{events_at}
 use Rattle.pdp_replay.specs.Ask.Accesses.{details_in_turns, details_told, log_of_all}
 use Rattle.pdp_replay.proofs.ask.TurnAccesses.{details_further, details_none, ends_more, ends_past, within_none}

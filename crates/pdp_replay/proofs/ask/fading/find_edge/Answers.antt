@@ -8,7 +8,7 @@ use Rattle.pdp_replay.specs.Run.States.{at}
 use Rattle.pdp_replay.specs.declared.run.branch.Branch.{Branch}
 use Rattle.pdp_replay.specs.declared.run.kept_run.KeptRun.{KeptRun}
 use Rattle.pdp_replay.proofs.ask.Fadings.{edge_is_first, none_joined}
-use Rattle.pdp_replay.proofs.run.Branches.{kept_metered, looked_further, looked_metered, looked_nowhere, looked_on, state_of_branch}
+use Rattle.pdp_replay.proofs.run.Branches.{counts_on, kept_metered, looked_further, looked_metered, looked_nowhere, looked_on, meter_grows, state_of_branch}
 use Rattle.pdp_replay.proofs.ask.fading.find_edge.Goals as goal
 use Rattle.pdp_replay.proofs.ask.fading.find_edge.Goals.{In_ok-state}
 
@@ -51,12 +51,12 @@ looked_twice to most counted before between after more first then le =
 pub returns-in_err-halve-in-Some-clause-looked : goal.returns-in_err-halve-in-Some-clause-looked
 returns-in_err-halve-in-Some-clause-looked c =
     let found : AreBesideIn c.args.apart c.args.to c.args.script.now c.gallop.new.run c.gallop.new.branch (Some c.in-Some.bracket) = subst (AreBesideIn c.args.apart c.args.to c.args.script.now c.gallop.new.run c.gallop.new.branch) c.in-Some.is c.in_ok-bracket.ensures.beside in
-    looked_twice c.args.to c.in-Some.bracket.alike c.run.new.meter c.args.run.now c.gallop.new.run c.halve.new.run c.run.ensures.counted c.gallop.ensures.looked c.halve.ensures.looked found.most
+    looked_twice c.args.to c.in-Some.bracket.alike c.run.new.meter c.args.run.now c.gallop.new.run c.halve.new.run (meter_grows _ _ _ c.run.ensures.runs.ran) c.gallop.ensures.looked c.halve.ensures.looked found.most
 
 pub returns-in_ok-halve-in-Some-clause-looked : goal.returns-in_ok-halve-in-Some-clause-looked
 returns-in_ok-halve-in-Some-clause-looked c =
     let found : AreBesideIn c.args.apart c.args.to c.args.script.now c.gallop.new.run c.gallop.new.branch (Some c.in-Some.bracket) = subst (AreBesideIn c.args.apart c.args.to c.args.script.now c.gallop.new.run c.gallop.new.branch) c.in-Some.is c.in_ok-bracket.ensures.beside in
-    looked_twice c.args.to c.in-Some.bracket.alike c.run.new.meter c.args.run.now c.gallop.new.run c.halve.new.run c.run.ensures.counted c.gallop.ensures.looked c.halve.ensures.looked found.most
+    looked_twice c.args.to c.in-Some.bracket.alike c.run.new.meter c.args.run.now c.gallop.new.run c.halve.new.run (meter_grows _ _ _ c.run.ensures.runs.ran) c.gallop.ensures.looked c.halve.ensures.looked found.most
 
 -- they are apart still when the branch came to that turn
 still_apart : (c : In_ok-state) (p q : Past) → AreApart c.args.apart p q c.args.script.now c.args.run.now c.args.branch.now
@@ -94,3 +94,17 @@ returns-in-None-clause-found c = λ p q apart.
     let b = (goal.at.returns-in-None-clause-found c).In_ok-state in
     none_joined p q c.args.to apart.tape
     (subst (IsBracketOrNone c.args.to p q) c.in-None.is (c.in_ok-bracket.ensures.found p q (still_apart b p q apart) (state_is b p q apart)))
+
+pub returns-in_ok-halve-in-Some-clause-counted : goal.returns-in_ok-halve-in-Some-clause-counted
+returns-in_ok-halve-in-Some-clause-counted c =
+    let turn = c.in_ok-run.ensures.turn in
+    let more = c.gallop.ensures.looked.counted in
+    let most = c.halve.ensures.looked.counted in
+    counts_on c.args.branch.now.machine.state.turn c.run.new.self.machine.state.turn c.args.apart c.args.run.now.meter c.args.run.now.meter c.run.new.meter c.halve.new.run.meter
+    (omega arith) turn c.run.ensures.runs.ran (omega (arith, more, most))
+
+pub returns-in-None-clause-counted : goal.returns-in-None-clause-counted
+returns-in-None-clause-counted c =
+    let turn = c.in_ok-run.ensures.turn in
+    counts_on c.args.branch.now.machine.state.turn c.run.new.self.machine.state.turn c.args.apart c.args.run.now.meter c.args.run.now.meter c.run.new.meter c.gallop.new.run.meter
+    (omega arith) turn c.run.ensures.runs.ran c.gallop.ensures.looked.counted

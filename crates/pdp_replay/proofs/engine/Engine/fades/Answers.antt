@@ -5,6 +5,8 @@ use Rattle.pdp_replay.specs.Past.{Past, past_from}
 use Rattle.pdp_replay.specs.Ask.Fadings.{fading}
 use Rattle.pdp_replay.specs.Timeline.{Timeline}
 use Rattle.pdp_replay.specs.declared.ask.told.Told.{Told}
+use Rattle.pdp_replay.proofs.ask.FadedAnswers.{answer_told, faded_edits_change_no_answer}
+use Rattle.pdp_replay.proofs.ask.FadedSearches.{faded_edits_change_no_search}
 use Rattle.pdp_replay.proofs.ask.FadingEdits.{too_large}
 use Rattle.pdp_replay.proofs.engine.Engine.fades.Goals as goal
 
@@ -27,3 +29,13 @@ returns-clause-turn c =
     let told = rw c.in_ok-turn.was at c.find_fading-found.ensures.turn p (record { same = refl; run = c.self.invariant.run; units = refl; drives = refl }) in
     rw c.of.ensures.value (
     subst (λ (t : Timeline). Ok c.in_ok-turn.turn ≡ question_answer (fading c.args.edit c.args.to t.past) false) c.self.view_is told)
+
+pub returns-clause-answers : goal.returns-clause-answers
+returns-clause-answers c =
+    let p : Past = c.args.self.now.past in
+    faded_edits_change_no_answer c.args.edit c.args.to p c.of.result.value (answer_told (fading c.args.edit c.args.to p) c.of.result.value (returns-clause-turn c))
+
+pub returns-clause-searches : goal.returns-clause-searches
+returns-clause-searches c =
+    let p : Past = c.args.self.now.past in
+    faded_edits_change_no_search c.args.edit c.args.to p c.of.result.value (answer_told (fading c.args.edit c.args.to p) c.of.result.value (returns-clause-turn c))

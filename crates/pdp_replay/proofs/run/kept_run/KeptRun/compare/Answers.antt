@@ -1,7 +1,7 @@
-use Rattle.std.proofs.Common.{subst, sym}
+use Rattle.std.proofs.Common.{arith, subst, sym}
 use Rattle.pdp_cpu.specs.Saved.{SavedMeet, saved_machine}
 use Rattle.pdp_replay.specs.Run.States.{at}
-use Rattle.pdp_replay.proofs.run.Branches.{fits_beside, kept_metered, state_of_branch}
+use Rattle.pdp_replay.proofs.run.Branches.{counts_on, fits_beside, kept_metered, state_of_branch}
 use Rattle.pdp_replay.proofs.run.kept_run.KeptRun.compare.Goals as goal
 
 pub meets-requires : goal.meets-requires
@@ -26,3 +26,15 @@ returns-else-meets-clause-told c = λ p q same run branch.
 
 pub returns-then-meets-clause-kept : goal.returns-then-meets-clause-kept
 returns-then-meets-clause-kept c = λ p same run. kept_metered p c.reach.new.self c.run.new.meter (c.reach.ensures.kept p same run)
+
+pub returns-then-meets-clause-counted : goal.returns-then-meets-clause-counted
+returns-then-meets-clause-counted c =
+    let turn = c.in_ok-run.ensures.turn in
+    counts_on c.args.branch.now.machine.state.turn c.run.new.self.machine.state.turn c.args.turn c.args.self.now.meter c.reach.new.self.meter c.run.new.meter c.run.new.meter
+    c.reach.ensures.advances.counted turn c.run.ensures.runs.ran (omega arith)
+
+pub returns-else-meets-clause-counted : goal.returns-else-meets-clause-counted
+returns-else-meets-clause-counted c =
+    let turn = c.in_ok-run.ensures.turn in
+    counts_on c.args.branch.now.machine.state.turn c.run.new.self.machine.state.turn c.args.turn c.args.self.now.meter c.reach.new.self.meter c.run.new.meter c.run.new.meter
+    c.reach.ensures.advances.counted turn c.run.ensures.runs.ran (omega arith)

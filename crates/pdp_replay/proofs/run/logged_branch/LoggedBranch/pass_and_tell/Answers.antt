@@ -5,7 +5,6 @@ use Rattle.pdp_cpu.specs.Handbook.Regs.{regs_of}
 use Rattle.pdp_script.specs.Entries.{events_at}
 use Rattle.pdp_replay.specs.Run.States.{state_at}
 use Rattle.pdp_replay.specs.Ask.Accesses.{turn_head}
-use Rattle.pdp_replay.specs.declared.ask.accesses.TurnHead.{TurnHead}
 use Rattle.pdp_replay.specs.declared.ask.disk_completions.DiskTurn.{DiskTurn}
 use Rattle.pdp_replay.proofs.ask.TurnAccesses.{act_there, after_there, details_alike, kept_length, printed_there, punched_there}
 use Rattle.pdp_replay.proofs.ask.TurnReads.{disk_there}
