@@ -26,6 +26,7 @@ if TYPE_CHECKING:
     from .core.replies import Devices as Devices, LastWrite as LastWrite, Mode as Mode
     from .core.replies import Pages as Pages, Registers as Registers, Turn as Turn
     from .core.replies import TurnAccesses as TurnAccesses, WordRead as WordRead
+    from .core.struck import Fate as Fate, StruckKey as StruckKey
 
     __version__: str
 
@@ -38,6 +39,7 @@ PLACES = {
     "LAST_TURN": "core.engine",
     "Devices": "core.replies",
     "Event": "core.past",
+    "Fate": "core.struck",
     "Found": "core.found",
     "LastWrite": "core.replies",
     "Machine": "core.machine",
@@ -49,6 +51,7 @@ PLACES = {
     "Refused": "core.engine",
     "Registers": "core.replies",
     "Setup": "core.past",
+    "StruckKey": "core.struck",
     "TimedOut": "core.program",
     "Transfer": "core.found",
     "Turn": "core.replies",
@@ -63,6 +66,7 @@ __all__ = [
     "CycleKind",
     "Devices",
     "Event",
+    "Fate",
     "Found",
     "LastWrite",
     "Machine",
@@ -74,6 +78,7 @@ __all__ = [
     "Refused",
     "Registers",
     "Setup",
+    "StruckKey",
     "TimedOut",
     "Transfer",
     "Turn",

@@ -8,10 +8,6 @@ from ..core.values import dataclass
 from .crew import Progress
 
 TURNS_OF_A_BATCH = 4_096
-# The parts of a reply of `regs`, `R0 000000 R1 .. KSP 000772 USP 030000 PC 001122 PS 030344 run`.
-POINTERS, KSP, USP = slice(64, 81), slice(64, 70), slice(75, 81)
-PC, PS, STATE = slice(85, 91), slice(95, 101), slice(102, None)
-STATUS, PLACE = slice(95, 97), slice(85, 97)  # the bits of both modes; PC up to these bits
 NO_INSTRUCTION = re.compile(r"^[0-9]+ [0-7]{6} (?!instr).+$", re.MULTILINE)
 
 

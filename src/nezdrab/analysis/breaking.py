@@ -4,8 +4,9 @@ from typing import Iterator, Optional
 
 from ..core import sessions
 from ..core.errors import ExploreError
+from ..core.hardware import NAMES_IN_THE_IO_PAGE
 from ..core.in_words import span
-from ..core.replies import Mode, WordRead, turns_of
+from ..core.replies import Mode, turns_of
 from .breakpoints import Breakpoint, Reached
 from .calls import turns_ahead
 from .command import Arguments, command
@@ -37,11 +38,17 @@ def break_command(explorer: Explorer, arguments: Arguments) -> Iterator[str]:
     machine, address = explorer.machine, word_of(arguments, "address")
     mode, condition = arguments.text("mode"), arguments.text("condition").strip(" \t")
     text = f"break {mode + ' ' if mode else ''}{address:o}{named(explorer, mode, address)}"
-    sought = f"at {address:o} {mode}".rstrip()
-    if condition:
-        sought = condition_sought(explorer, [f"at {address:o}", *mode.split(), condition])
-        text += f" if {condition}"
+    sought = sought_at(explorer, address, mode, condition)
+    text += f" if {condition}" if condition else ""
     yield from set_lines(explorer.breakpoints.add(machine, text, sought, None))
+
+
+def sought_at(explorer: Explorer, address: int, mode: str, condition: str) -> str:
+    """A run of the instruction at an address, in any mode or in this one, if a condition holds, in
+    the words of a search."""
+    if condition:
+        return condition_sought(explorer, [f"at {address:o}", *mode.split(), condition])
+    return f"at {address:o} {mode}".rstrip()
 
 
 def named(explorer: Explorer, mode: str, address: int) -> str:
@@ -77,22 +84,25 @@ def condition_sought(explorer: Explorer, parts: list[str]) -> str:
     return line[len(begin) :]
 
 
-@command("watch A", r"<address:address>", "a breakpoint: a write of a core word")
+@command("watch A", r"<address:place>", "a breakpoint: a write of a core word or a register")
 def watch(explorer: Explorer, arguments: Arguments) -> Iterator[str]:
     """Sets a breakpoint at each turn that writes the core word at A, an address of core, also if
-    the word stays the same, and also if the disk writes it. An image and a patch are no writes."""
-    address = arguments.octal("address")
-    point = explorer.breakpoints.add(explorer.machine, f"watch {address:o}", "", address)
-    yield from set_lines(point)
+    the word stays the same, and also if the disk writes it. An image and a patch are no writes. A
+    may be a register on the bus, such as TPB, as in `writes`."""
+    return watched_lines(explorer, arguments.octal("address"), is_read=False)
 
 
-@command("rwatch A", r"<address:address>", "a breakpoint: a read of a core word")
+@command("rwatch A", r"<address:place>", "a breakpoint: a read of a core word or a register")
 def rwatch(explorer: Explorer, arguments: Arguments) -> Iterator[str]:
     """Sets a breakpoint at each turn that reads the core word at A, an address of core, as `reads`
-    lists them: the processor or the disk."""
-    address, machine = arguments.octal("address"), explorer.machine
-    text = f"rwatch {address:o}"
-    yield from set_lines(explorer.breakpoints.add(machine, text, "", address, is_read=True))
+    lists them: the processor or the disk. A may be a register on the bus, such as TKB."""
+    return watched_lines(explorer, arguments.octal("address"), is_read=True)
+
+
+def watched_lines(explorer: Explorer, address: int, is_read: bool) -> Iterator[str]:
+    name = NAMES_IN_THE_IO_PAGE.get(address, "")
+    text = f"{'r' * is_read}watch {address:o}{f' ({name})' if name else ''}"
+    yield from set_lines(explorer.breakpoints.add(explorer.machine, text, "", address, is_read))
 
 
 @command(
@@ -140,11 +150,14 @@ def check_set(explorer: Explorer) -> None:
 def reached_line(explorer: Explorer, point: Breakpoint, turn: int) -> str:
     """The breakpoint, and for a write or a read who wrote or read what."""
     (line,) = set_lines(point)
-    if point.is_read and point.address is not None:
-        lines, _ = explorer.machine.reads(range(turn, turn + 1), point.address)
-        return line + "".join(f": {it.reader} {it.word:06o}" for it in map(WordRead.of, lines))
-    write = None if point.address is None else explorer.machine.last(turn + 1, point.address)
-    return line if write is None else f"{line}: {write.writer} {write.word:06o}"
+    if point.address is None:
+        return line
+    finder, turns = explorer.finder, range(turn, turn + 1)
+    if point.is_read:
+        read = [it for found, _ in finder.reads(turns, point.address) for it in found]
+        return line + "".join(f": {it.reader} {it.word:06o}" for it in read)
+    written = [it for found, _ in finder.writes_of(turns, point.address) for it in found]
+    return line + "".join(f": {it.writer} {it.word:06o}" for it in written)
 
 
 def reached_lines(

@@ -1,29 +1,46 @@
 """Breakpoints: what each of them looks for, and the turn in which the first or the last holds."""
-from typing import Optional
+from typing import Callable, Iterator, Optional
 
 from ..core.engine import Machine
 from ..core.errors import ExploreError
+from ..core.places import is_register
+from ..core.register_search import READ, WRITTEN, found_at
 from ..core.replies import LastWrite, WordRead
 from ..core.values import dataclass, field
-from .finder import Finder, growing_parts
+from .finder import TURNS_OF_A_SEARCH, Finder, growing_parts
+
+TURNS_OF_REGISTERS = 16_384  # that are looked at together for what is at a register
 
 
 @dataclass(frozen=True)
 class Breakpoint:
     """What a turn does at a breakpoint: what is sought, in the words of the lines `first` and
-    `latest`, or a write or a read of the core word at this address."""
+    `latest`, or a write or a read of the core word or the register at this address."""
 
     number: int
     text: str
     sought: str
     address: Optional[int] = None
     is_read: bool = False
+    message: str = ""  # what an editor says there, which then doesn't stop
+
+    @property
+    def is_of_register(self) -> bool:
+        return self.address is not None and is_register(self.address)
+
+    def at_register(self, machine: Machine, turns: range) -> Iterator[int]:
+        """The turns that read the register, or write it."""
+        kinds = READ if self.is_read else WRITTEN
+        for found, _ in found_at(machine, turns, self.address or 0, kinds, 0):
+            yield from (turn for turn, _ in found)
 
     def first(self, machine: Machine, turns: range) -> Optional[int]:
         """The first of the turns at which it holds. `last`, which tells first whether there is a
         write, runs no known turn again."""
         if self.address is None:
             return machine.found("first", turns, self.sought)
+        if self.is_of_register:
+            return next(self.at_register(machine, turns), None)
         if self.is_read:
             lines, _ = machine.reads(turns, self.address)
             return WordRead.of(lines[0]).turn if lines else None
@@ -35,6 +52,8 @@ class Breakpoint:
     def last(self, machine: Machine, turns: range) -> Optional[int]:
         if self.address is None:
             return machine.found("latest", turns, self.sought)
+        if self.is_of_register:
+            return max(self.at_register(machine, turns), default=None)
         if self.is_read:
             read = Finder(machine).last_read(turns, self.address)
             return read.turn if read is not None else None
@@ -56,6 +75,7 @@ class Breakpoints:
 
     points: list[Breakpoint] = field(default_factory=list)
     count: int = 0
+    say: Callable[[str], None] = print  # where an editor's messages go
 
     def add(
         self,
@@ -68,10 +88,17 @@ class Breakpoints:
         """A new one, if the program takes the line that looks for it."""
         word = "reads" if is_read else "writes"
         line = f"first 0 0 {sought}" if address is None else f"{word} 0 0 {address:o}"
-        machine.check_taken(line)
+        if address is None or not is_register(address):
+            machine.check_taken(line)
         self.count += 1
         self.points.append(Breakpoint(self.count, text, sought, address, is_read))
         return self.points[-1]
+
+    @property
+    def largest_part(self) -> int:
+        """How many turns are looked at together at most."""
+        is_slow = any(it.is_of_register for it in self.points)
+        return TURNS_OF_REGISTERS if is_slow else TURNS_OF_A_SEARCH
 
     def delete(self, number: int) -> Breakpoint:
         found = next((it for it in self.points if it.number == number), None)
@@ -86,8 +113,8 @@ class Breakpoints:
         """Where the first of these turns is at which one holds, or backwards the last one. The
         turns are asked in parts. In a part each breakpoint is looked for up to what was found,
         those of reads last: they take longest."""
-        points = sorted(self.points, key=lambda it: it.is_read)
-        for part in growing_parts(turns, is_backwards):
+        points = sorted(self.points, key=lambda it: (it.is_of_register, it.is_read))
+        for part in growing_parts(turns, is_backwards, self.largest_part):
             found: list[tuple[int, Breakpoint]] = []
             for point in points:
                 turn = (point.last if is_backwards else point.first)(machine, part)

@@ -2,12 +2,14 @@
 from typing import Iterator, NamedTuple, Optional
 
 from ..core.engine import Machine
-from ..core.replies import MODES, Mode, Registers, Turn
+from ..core.register_rows import KSP, PC, PLACE, POINTERS, STATUS, USP
+from ..core.replies import MODES, DiskFunction, Mode, Registers, Turn
 from ..core.values import dataclass
-from .batches import KSP, PC, PLACE, POINTERS, STATUS, USP, Batch
+from .batches import Batch
 from .finder import parts_of
 from .levels import JSR, NEAR_BYTES, WITH_NUMBER, WITHOUT, Done, is_load
 from .routines import Label, Labels
+from .transfers import functions_done
 
 SEQUENTIAL = (2, 4, 6)  # bytes from an instruction to the one behind it
 OTHER_TRAPS = (0o4, 0o10, 0o250)  # those of instructions whose words don't say that they trap
@@ -98,7 +100,8 @@ class Known:
             for part in parts_of(turns)
             for turn in turns_with(machine, part, f"trap {vector:o}")
         }
-        return cls(traps, set(turns_of_reads(machine, turns)))
+        done = functions_done(machine, turns)
+        return cls(traps, {it.turn for it in done if it.function == DiskFunction.READ})
 
 
 def turns_with(machine: Machine, turns: range, sought: str) -> Iterator[int]:
@@ -107,15 +110,6 @@ def turns_with(machine: Machine, turns: range, sought: str) -> Iterator[int]:
         found = machine.found("first", turns, sought)
         turns = range(turns.stop if found is None else found + 1, turns.stop)
         yield from [] if found is None else [found]
-
-
-def turns_of_reads(machine: Machine, turns: range) -> Iterator[int]:
-    while turns:
-        head, *lines = machine.read(f"transfers {turns.start} {turns.stop}").splitlines()
-        fields = [it.split() for it in lines]
-        yield from (int(turn) for turn, _, function, *_ in fields if function == "read")
-        is_all = len(head.split()) == 2
-        turns = range(turns.stop if is_all else int(fields[-1][0]) + 1, turns.stop)
 
 
 def steps_of(machine: Machine, batch: Batch, labels: Labels, known: Known) -> list[Step]:

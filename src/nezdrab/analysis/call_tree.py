@@ -2,9 +2,10 @@
 from typing import Optional
 
 from ..core.errors import ExploreError
+from ..core.register_rows import PLACE, STATE, STATUS
 from ..core.replies import INTERRUPT, MODES, Mode
 from ..core.values import dataclass, field
-from .batches import PLACE, STATE, STATUS, batches_of
+from .batches import batches_of
 from .call_steps import Known, Step, steps_of
 from .counting import Place
 from .explorer import Explorer

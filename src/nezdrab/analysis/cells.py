@@ -3,9 +3,9 @@ physical address, a byte of a register of the processor, a condition code, the r
 byte of a drive."""
 from typing import NamedTuple, Sequence
 
-from ..core.hardware import DRIVE_WORDS
+from ..core.hardware import DRIVE_WORDS, IO_PAGE
 
-MASK, IO_PAGE = 0o177777, 0o760000
+MASK = 0o177777
 REGISTERS, CODES, DRIVES = 1 << 20, (1 << 20) + 16, 1 << 21
 # The codes in the order of their bits in PS; the rest of PS: both modes, priority and T; and PC,
 # which nothing is made of: where the program stands isn't followed.

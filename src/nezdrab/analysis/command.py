@@ -7,6 +7,7 @@ from typing import Callable, Iterator, Optional
 from ..core.engine import LAST_TURN, Machine
 from ..core.errors import ExploreError
 from ..core.language import comma_fault
+from ..core.places import place_of
 from ..core.replies import Mode
 from ..core.symbols import ADDRESS
 from ..core.values import dataclass
@@ -63,6 +64,10 @@ class Command:
         return self.parts_of("address")
 
     @cached_property
+    def places(self) -> frozenset[str]:
+        return self.parts_of("place")
+
+    @cached_property
     def files(self) -> frozenset[str]:
         return self.parts_of("file")
 
@@ -98,6 +103,8 @@ class Command:
         for name in self.addresses.intersection(it for it, text in parts.items() if text):
             number = explorer.symbols.number(parts[name], Mode(mode) if mode else None)
             parts[name] = f"{number:o}"
+        for name in self.places.intersection(it for it, text in parts.items() if text):
+            parts[name] = f"{place_of(explorer.machine, explorer.symbols, parts[name] or ''):o}"
         for names, inside in ((self.files, file_of), (self.texts, text_of)):
             parts.update((it, inside(parts[it])) for it in names if parts[it] is not None)
         return self.run(explorer, Arguments(parts))
@@ -144,6 +151,14 @@ def turns_between(first: int, last: int) -> range:
     return range(first, last + 1)
 
 
+def turns_before(first: int, end: int) -> range:
+    """The turns from N on and before M."""
+    check_turn(max(first, end))
+    if end <= first:
+        raise ExploreError("M isn't above N")
+    return range(first, end)
+
+
 def check_even(address: int) -> None:
     """An error if words can't be moved to this address."""
     if address % 2:
@@ -160,11 +175,13 @@ def check_drive(machine: Machine) -> None:
 # the square of its length.
 BLANKS = r"(?<![ \t])[ \t]+"
 # The parts of patterns: a turn, a count and an event are decimal, a word is octal, and so is an
-# address, or it is a symbol. A file and a text may stand in quotes.
+# address, or it is a symbol; a place may also be a register of the I/O page. A file and a text may
+# stand in quotes.
 PARTS = {
     "decimal": r"[0-9]{1,10}",
     "octal": r"[0-7]{1,10}",
     "address": ADDRESS,
+    "place": ADDRESS,
     "file": WORD,
     "text": WORD,
     "from": r"((^| )from (?P<first>[0-9]{1,10}))?",

@@ -4,11 +4,13 @@ import re
 from contextlib import closing
 from typing import Iterator, Optional
 
+from ..core.all_words import words_apart
 from ..core.engine import Machine
 from ..core.in_words import span
 from ..core.values import dataclass
 from .command import Arguments, command, turn_range
 from .crew import Progress
+from .difference import word_rows
 from .explorer import Explorer
 from .fades import fade_of, turns_to_ask
 
@@ -124,10 +126,20 @@ def same_from(without: Machine, line: str, turns: range) -> Optional[int]:
     return None if fade is None else fade.turn
 
 
+def words_at(without: Machine, machine: Machine, turn: int) -> Iterator[str]:
+    """The words of core and of the drives that differ before a turn."""
+    other = ""
+    for drive, words in words_apart(without, machine, turn):
+        if words:
+            other = " other"
+            yield from word_rows(machine, turn, drive, ("without", "with"), words)
+    yield f"no{other} word of core or of a drive differs"
+
+
 @command(
-    "compare [from N] [to M]",
-    r"{from}{to}",
-    "where the past before the last edit parts from the one after it",
+    "compare [from N] [to M]  or  compare at N",
+    r"at <turn:decimal>|{from}{to}",
+    "where the past before the last edit parts from the one after it; words that differ",
 )
 def compare(explorer: Explorer, arguments: Arguments) -> Iterator[str]:
     """Runs the machine without the last edit beside the one with it, and finds the first turn of N
@@ -137,13 +149,19 @@ def compare(explorer: Explorer, arguments: Arguments) -> Iterator[str]:
     looked at, and halved where the two differ. So a parting may have come and gone before: the
     reply says 'at the latest', or how many turns were looked at. If the edit fades before M, the
     last line says from which turn on the two are the same, and no later turn is looked at: only
-    what was printed before stays different."""
+    what was printed before stays different.
+    `compare at N` lists the words of core and of the drives that differ before turn N. It is exact:
+    all are looked at, and of each memory the first 256 that differ are shown."""
     machine = explorer.machine
     if not machine.journal:
         yield "no edit was made"
         return
     line = machine.journal[-1]
     with closing(machine.twin(machine.journal[:-1])) as without:
+        if arguments.optional("turn"):
+            yield f"without | with: {line}"
+            yield from words_at(without, machine, arguments.decimal("turn"))
+            return
         edited = turns_to_ask(line, without)
         turns = turn_range(arguments, edited.start if edited else 0, COMPARED_TURNS)
         yield f"without | with: {line}"

@@ -10,6 +10,7 @@ from typing import Callable, ClassVar, Iterable, Iterator, Optional, TypeVar
 
 from ..core.engine import Machine
 from ..core.errors import ExploreError
+from ..core.interrupts import INTERRUPTS
 from ..core.values import dataclass
 
 Task = TypeVar("Task")
@@ -51,6 +52,19 @@ class Progress:
             Progress.bars -= 1
             sys.stderr.write("\r" + " " * (WIDTH + 50) + "\r")
             sys.stderr.flush()
+
+
+def stopped_by(work: Iterable[object]) -> str:
+    """Does work to its end, and returns an empty text, or what stops it: Ctrl-C or an error."""
+    try:
+        for _ in work:
+            pass
+    except KeyboardInterrupt:
+        INTERRUPTS.again()
+        return "stopped"
+    except ExploreError as error:
+        return str(error)
+    return ""
 
 
 def processors() -> int:

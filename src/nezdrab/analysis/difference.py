@@ -1,35 +1,19 @@
 """The words that differ between two turns: `diff`."""
-from typing import Iterator, Sequence
+from typing import Iterator, Optional, Sequence
 
+from ..core.all_words import Pair, differing, memory_lines
 from ..core.engine import SHORT_SENT_AHEAD, Machine
 from ..core.in_words import counted
 from ..core.replies import LastWrite
 from .command import Arguments, command
 from .explorer import Explorer
-from .memory_images import core_words, drive_image
 
-MOST_SHOWN, UNLIKE = 256, 4_096
-
-
-def differing(before: Sequence[int], after: Sequence[int]) -> list[int]:
-    """The places at which two equally long sequences differ. Equal parts are passed over."""
-    return [
-        at + offset
-        for at in range(0, len(before), UNLIKE)
-        if before[at : at + UNLIKE] != after[at : at + UNLIKE]
-        for offset, pair in enumerate(zip(before[at : at + UNLIKE], after[at : at + UNLIKE]))
-        if pair[0] != pair[1]
-    ]
+MOST_SHOWN = 256
 
 
-def drive_words(machine: Machine, turn: int, drive: int) -> Sequence[int]:
-    image = drive_image(machine, turn, drive)
-    return [low | high << 8 for low, high in zip(image[::2], image[1::2])]
-
-
-def writers(machine: Machine, turn: int, places: Sequence[int]) -> Iterator[str]:
+def writers(machine: Machine, turn: int, words: Sequence[Pair]) -> Iterator[str]:
     """Who wrote these words of core last before the turn."""
-    lines = [f"last {turn} {2 * it:o}" for it in places]
+    lines = [f"last {turn} {2 * at:o}" for at, _, _ in words]
     for reply in machine.read_all(lines, SHORT_SENT_AHEAD):
         last = LastWrite.of(reply)
         yield f"turn {last.turn} {last.writer}" if last else "never"
@@ -37,6 +21,28 @@ def writers(machine: Machine, turn: int, places: Sequence[int]) -> Iterator[str]
 
 def row(place: str, before: str, after: str, who: str) -> str:
     return f"{place:<7}  {before:<10}  {after:<10}  {who}".rstrip()
+
+
+def word_rows(
+    machine: Machine,
+    turn: int,
+    drive: Optional[int],
+    titles: tuple[str, str],
+    words: Sequence[Pair],
+) -> Iterator[str]:
+    """Words that differ, the first of them, and how many there are. Below the titles stand the
+    words, and of core who wrote them in this machine last before the turn."""
+    is_core, shown = drive is None, words[:MOST_SHOWN]
+    who = writers(machine, turn, shown) if is_core else iter([""] * len(shown))
+    if shown:
+        yield row("core" if is_core else "disk", *titles, "last written" if is_core else "")
+    for at, before, after in shown:
+        place = f"{2 * at:06o}" if is_core else f"{at:07o}"
+        yield row(place, f"{before:06o}", f"{after:06o}", next(who))
+    what = "core" if is_core else f"drive {drive}"
+    more = f"; the first {MOST_SHOWN} are shown" if len(words) > MOST_SHOWN else ""
+    verb = "differs" if len(words) == 1 else "differ"
+    yield f"{counted(len(words), 'word')} of {what} {verb}{more}"
 
 
 @command(
@@ -53,23 +59,10 @@ def diff(explorer: Explorer, arguments: Arguments) -> Iterator[str]:
     a word of the disk."""
     machine = explorer.machine
     first, last = arguments.decimal("turn"), arguments.decimal("last")
-    is_disk, drive = arguments.optional("kind") is not None, arguments.octal("drive")
-
-    def words(turn: int) -> Sequence[int]:
-        return drive_words(machine, turn, drive) if is_disk else core_words(machine, turn)
-
-    taken = {turn: words(turn) for turn in sorted((first, last))}
-    before, after = taken[first], taken[last]
-    places = differing(before, after)
-    shown = places[:MOST_SHOWN]
-    wrote = iter([""] * len(shown)) if is_disk else writers(machine, max(first, last), shown)
-    if shown:
-        titles = ("disk", "") if is_disk else ("core", "last written")
-        yield row(titles[0], str(first), str(last), titles[1])
-    for at, who in zip(shown, wrote):
-        place = f"{at:07o}" if is_disk else f"{2 * at:06o}"
-        yield row(place, f"{before[at]:06o}", f"{after[at]:06o}", who)
-    what = f"of drive {drive} " if is_disk else "of core "
-    more = f"; the first {MOST_SHOWN} are shown" if len(places) > MOST_SHOWN else ""
-    verb = "differs" if len(places) == 1 else "differ"
-    yield f"{counted(len(places), 'word')} {what}{verb}{more}"
+    drive = arguments.octal("drive") if arguments.optional("kind") else None
+    taken = {
+        turn: list(machine.read_all(memory_lines(machine, turn, drive)))
+        for turn in sorted((first, last))
+    }
+    words = list(differing(zip(taken[first], taken[last])))
+    yield from word_rows(machine, max(first, last), drive, (str(first), str(last)), words)

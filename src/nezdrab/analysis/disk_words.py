@@ -73,6 +73,20 @@ def functions_in_words(
     }
 
 
+def acts_in_words(
+    explorer: Explorer, acts: Iterable[tuple[int, str]]
+) -> dict[tuple[int, str], str]:
+    """What the processor or the disk did in these turns, by turn and who it was, `cpu` or
+    `disk`."""
+    asked = sorted(set(acts))
+    by_disk = [turn for turn, who in asked if who == "disk"]
+    by_processor = [turn for turn, who in asked if who != "disk"]
+    functions = functions_in_words(explorer, by_disk, {})
+    found = {(turn, "disk"): text for turn, text in functions.items()}
+    texts = zip(by_processor, turns_in_words(explorer, by_processor))
+    return {**found, **{(turn, "cpu"): text for turn, text in texts}}
+
+
 def function_in_words(devices: Devices) -> str:
     core = f"core {devices.bus_address:06o}"
     sector = f"sector {devices.sector} of drive {devices.drive}"

@@ -1,13 +1,16 @@
 """Finds turns, by the searches of the program search."""
-from typing import Callable, Iterator, Optional
+from typing import Callable, Iterable, Iterator, Optional, TypeVar
 
 from ..core.engine import Machine
+from ..core.places import is_register
+from ..core.register_search import reads_at, writes_at
 from ..core.replies import LastWrite, WordRead
 from ..core.values import dataclass
 from .crew import Progress
 
 TURNS_OF_A_SEARCH = 10_000_000  # searched at once, in a tenth of a second or more
 TURNS_AT_FIRST = 16_384  # of a search for what is usually near
+Item = TypeVar("Item")
 # A search that lists: lines for the first of some turns, and the turns that are left.
 Listing = Callable[[range], tuple[list[str], range]]
 
@@ -30,7 +33,19 @@ def listed_in(turns: range, listing: Listing) -> Iterator[tuple[list[str], int]]
             yield lines, part.start
 
 
-def growing_parts(turns: range, is_backwards: bool = False) -> Iterator[range]:
+def with_bar(
+    found: Iterable[tuple[list[Item], int]], turns: range
+) -> Iterator[tuple[list[Item], int]]:
+    """What is found in these turns, each part with the turn before which it is all, with a bar."""
+    with Progress(len(turns), "turns") as progress:
+        for items, end in found:
+            yield items, end
+            progress.step(end - turns.start - progress.done)
+
+
+def growing_parts(
+    turns: range, is_backwards: bool = False, largest: int = TURNS_OF_A_SEARCH
+) -> Iterator[range]:
     """The turns in parts that double, from the first turn on or from the last one back."""
     size = TURNS_AT_FIRST
     with Progress(len(turns), "turns") as progress:
@@ -41,7 +56,7 @@ def growing_parts(turns: range, is_backwards: bool = False) -> Iterator[range]:
                 part, turns = turns[:size], turns[size:]
             yield part
             progress.step(len(part))
-            size = min(2 * size, TURNS_OF_A_SEARCH)
+            size = min(2 * size, largest)
 
 
 @dataclass(frozen=True)
@@ -54,6 +69,14 @@ class Finder:
         """The first of the turns that is sought, in the words of the line `first`."""
         found = (self.machine.found("first", part, sought) for part in parts_of(turns))
         return next((it for it in found if it is not None), None)
+
+    def each(self, turns: range, sought: str) -> Iterator[int]:
+        """All of the turns that are sought."""
+        for part in parts_of(turns):
+            while part:
+                found = self.machine.found("first", part, sought)
+                part = range(0) if found is None else range(found + 1, part.stop)
+                yield from [] if found is None else [found]
 
     # The writes to a core word
 
@@ -70,8 +93,16 @@ class Finder:
 
     def writes(self, turns: range, address: int) -> Iterator[LastWrite]:
         """The writes to the word in these turns, in their order; of each turn the last."""
-        for lines, _ in listed_in(turns, lambda it: self.machine.writes(it, address)):
-            yield from map(LastWrite.of_line, lines)
+        for found, _ in self.writes_of(turns, address):
+            yield from found
+
+    def writes_of(self, turns: range, address: int) -> Iterator[tuple[list[LastWrite], int]]:
+        """The same of a register too, some at a time, and the turn before which these are all."""
+        if is_register(address):
+            yield from with_bar(writes_at(self.machine, turns, address), turns)
+            return
+        for lines, end in listed_in(turns, lambda it: self.machine.writes(it, address)):
+            yield list(map(LastWrite.of_line, lines)), end
 
     def first_write_of(self, turns: range, address: int, word: int) -> Optional[LastWrite]:
         """The write that makes the word this value first. Before these turns it is another one."""
@@ -80,11 +111,14 @@ class Finder:
         is_found = last is not None and last.turn >= turns.start and last.word == word
         return last if is_found else None
 
-    # The reads of a core word
+    # The reads of a core word or a register
 
     def reads(self, turns: range, address: int) -> Iterator[tuple[list[WordRead], int]]:
         """The reads of the word in these turns, in their order, of each turn the first: some at a
         time, and the turn before which these are all."""
+        if is_register(address):
+            yield from with_bar(reads_at(self.machine, turns, address), turns)
+            return
         for lines, end in listed_in(turns, lambda it: self.machine.reads(it, address)):
             yield list(map(WordRead.of, lines)), end
 

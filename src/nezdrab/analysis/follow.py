@@ -7,7 +7,8 @@ from ..core.in_words import counted
 from ..core.interrupts import INTERRUPTS
 from ..core.past import Event
 from ..core.values import dataclass, field
-from .cells import C, N, OUTPUTS, TPB, V, Z, byte_of_drive, is_core, is_of_drive, name_of, some_of
+from .branches import LOOKED_AT
+from .cells import OUTPUTS, TPB, byte_of_drive, is_core, is_of_drive, name_of, some_of
 from .command import Arguments, command
 from .explorer import Explorer
 from .labels import Brought, Carried, Labels, Moved, events_with_data
@@ -18,8 +19,6 @@ from .turn_flow import flows_with_bar
 
 FOLLOWED_TURNS, MOST_LINES, FEW_WORDS, MOST_TURNS_SHOWN = 10_000, 60, 4, 8
 MARK = 1
-# The codes that a branch looks at, by the upper bits of its word.
-LOOKED_AT = {1: (Z,), 2: (N, V), 3: (Z, N, V), 0o100: (N,), 0o101: (C, Z), 0o102: (V,), 0o103: (C,)}
 
 
 @dataclass

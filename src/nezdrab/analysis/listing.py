@@ -4,6 +4,7 @@ from typing import Iterable, Iterator, Optional, Sequence
 
 from ..core.engine import MOST_WORDS, SHORT_SENT_AHEAD, Machine
 from ..core.errors import ExploreError
+from ..core.hardware import IO_PAGE
 from ..core.replies import INSTRUCTION, INTERRUPT, LastWrite, Mode, Registers, Turn, turns_of
 from ..core.replies import words_of
 from ..core.values import dataclass
@@ -12,7 +13,7 @@ from .disassembly import Instruction
 from .explorer import Explorer
 
 INSTRUCTION_WORDS, UNIT_BYTES = 3, 0o20000
-SHOWN_AT_ONCE, VIRTUAL, PHYSICAL, IO_PAGE = 16, 0o200000, 0o1000000, 0o760000
+SHOWN_AT_ONCE, VIRTUAL, PHYSICAL = 16, 0o200000, 0o1000000
 NOT_WHOLE = "(can't be fetched whole)"
 
 

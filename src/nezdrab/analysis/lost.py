@@ -1,17 +1,18 @@
-"""Which runs of an instruction have left nothing: `lost`."""
+"""Which runs of an instruction have left nothing, which keys weren't read: `lost`."""
 from typing import Iterator
 
 from ..core.engine import Machine
 from ..core.errors import ExploreError
 from ..core.in_words import counted, span
-from ..core.interrupts import INTERRUPTS
 from ..core.replies import INSTRUCTION, MODES, Mode
 from ..core.values import dataclass, field
 from .cells import is_core, is_of_drive, is_register
 from .command import Arguments, command, turns_between
+from .crew import stopped_by
 from .explorer import Explorer
 from .labels import RESULTS, Labels
 from .listing import turns_in_words
+from .lost_keys import lost_keys
 from .operands import Flow
 from .search import word_of
 from .turn_flow import flows_with_bar
@@ -31,8 +32,8 @@ class Runs:
     without_result: int = 0  # runs that wrote no word and no register
     end: int = 0  # the turn before which the walk is
 
-    def walk(self, turns: range) -> None:
-        """Walks over these turns. Before the first run there is nothing to carry."""
+    def walk(self, turns: range) -> Iterator[None]:
+        """Walks over these turns, one at a time. Before the first run there is nothing to carry."""
         self.end = turns.start
         found = self.machine.found("first", turns, f"at {self.pc:o} {MODES[self.mode].value}")
         if found is None:
@@ -40,6 +41,7 @@ class Runs:
             return
         for flow in flows_with_bar(self.machine, range(found, turns.stop)):
             self.take(flow)
+            yield
 
     def take(self, flow: Flow) -> None:
         if flow.transfer is not None:
@@ -80,28 +82,30 @@ class Runs:
 
 
 @command(
-    "lost PC A [user|kernel] from N to M",
-    r"(PC|pc) <address:address>( (?P<mode>user|kernel))? from <first:decimal> to <last:decimal>",
-    "the runs of an instruction that have left nothing on the disk",
+    "lost keys [N M]  or  lost PC A [user|kernel] from N to M",
+    r"((?P<keys>keys)( <turn:decimal> <end:decimal>)?"
+    r"|(PC|pc) <address:address>( (?P<mode>user|kernel))? from <first:decimal> to <last:decimal>)",
+    "keys that weren't read; runs of an instruction that have left nothing on the disk",
 )
 def lost(explorer: Explorer, arguments: Arguments) -> Iterator[str]:
-    """Follows what each run of the instruction at A wrote, over the turns N to M, and shows the
-    runs of which nothing is left after turn M: on no drive, but in core or a register; or nowhere.
-    A is an address as the program has it, in kernel mode if none is named. A run that traps
-    doesn't count. 'Left' is of data, as in `follow`: a word that was only counted with, or that
-    decided a branch, is none. Only writes of the disk in the turns N to M bring something to a
+    """`lost keys` shows what became of each key that is struck from turn N on and before turn M,
+    without N and M of all keys. First come those that were lost: before the program read TKB
+    another key took its place there, or RESET cleared done. Then come those that were read, the
+    longest delay first. `until` is the turn of that, and `turns` is how many it took. A read of TKB
+    counts if done is set. It is exact, and Ctrl-C shows what was found up to there.
+    `lost PC` follows what each run of the instruction at A wrote, over the turns N to M, and shows
+    the runs of which nothing is left after turn M: on no drive, but in core or a register; or
+    nowhere. A is an address as the program has it, in kernel mode if none is named. A run that
+    traps doesn't count. 'Left' is of data, as in `follow`: a word that was only counted with, or
+    that decided a branch, is none. Only writes of the disk in the turns N to M bring something to a
     drive. Ctrl-C ends it, and what was found up to there is shown."""
+    if arguments.optional("keys"):
+        yield from lost_keys(explorer, arguments)
+        return
     turns = turns_between(arguments.decimal("first"), arguments.decimal("last"))
     pc, mode = word_of(arguments, "address"), MODES.index(Mode(arguments.text("mode") or "kernel"))
     runs = Runs(explorer.machine, pc, mode)
-    stopped = ""
-    try:
-        runs.walk(turns)
-    except KeyboardInterrupt:
-        INTERRUPTS.again()
-        stopped = "stopped"
-    except ExploreError as error:
-        stopped = str(error)
+    stopped = stopped_by(runs.walk(turns))
     yield from lines_of(explorer, runs, range(turns.start, max(runs.end, turns.start + 1)))
     if stopped:
         yield f"the turns from {runs.end} on weren't looked at: {stopped}"

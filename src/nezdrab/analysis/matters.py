@@ -3,13 +3,12 @@ import re
 from pathlib import Path
 from typing import Iterable, Iterator, Optional, Sequence
 
-from ..core import sessions
-from ..core.asked import NAMES
-from ..core.engine import LAST_TURN, Machine, is_refused
+from ..core.asked import sparse_stride
+from ..core.engine import LAST_TURN, Machine
 from ..core.errors import ExploreError
 from ..core.in_words import counted, some_are
 from ..core.interrupts import INTERRUPTS
-from ..core.language import comma_fault, explanation
+from ..core.language import comma_fault
 from ..core.past import Event
 from ..core.sessions import words_of
 from ..core.values import dataclass, field
@@ -17,23 +16,24 @@ from .command import Arguments, command
 from .crew import Progress, each_of
 from .explorer import Explorer
 from .matters_table import Row, table
-from .moves import Change, Moves, Task, Trial, Tried, Way, common, in_one_line
+from .moves import Change, Moves, Task, Trial, Tried, Way, common, named_events
 from .quotes import files_of, quote_fault
 from .result_files import ResultFile, job_lines, kept_in
-from .sweep import check_question, digest_of
+from .sought_reply import is_reply, reply_of_turn
+from .sweep import digest_of
 from .sweep_fades import end_of
 from .work_options import WorkOptions
 
 USUAL_MOST = 1_024
-LEAST_STRIDE, STATES = 50_000, 8  # few states between a move and the question: each is taken over
 JOBS = 64
-FORM = "matters [E ..] [within C|near C]: QUESTION"
+FORM = "matters [E ..] [within C|near C]: QUESTION [until REPLY]"
 MATTERS = re.compile(
     r"(?P<events>[0-9]{1,10}( [0-9]{1,10})*)?"
     r"((^| )(?P<how>within|near)( (?P<most>[0-9]{1,10}))?)? ?: ?(?P<question>.+)"
 )
 HEADING = re.compile(
-    r"# matters(?P<near> near)?: (?P<question>.+), past [0-9a-f]{16}, reply (?P<reply>.*)"
+    r"# matters(?P<near> near)?: (?P<question>.+?)( until (?P<until>.+))?"
+    r", past [0-9a-f]{16}, reply (?P<reply>.*)"
 )
 RESULT = re.compile(
     r"(?P<event>[0-9]{1,10}) (?P<turn>[0-9]{1,10}) (?P<text>[a-z]+( [0-7]{1,6})?): "
@@ -117,6 +117,7 @@ class Matters:
 
     @classmethod
     def of(cls, machine: Machine, text: str) -> "Matters":
+        text, *until = re.split(r"[ \t]until[ \t]+", text, maxsplit=1)
         match = MATTERS.fullmatch(" ".join(words_of(text)))
         if match is None:
             commas = comma_fault(text)
@@ -124,14 +125,11 @@ class Matters:
         most = int(match["most"] or USUAL_MOST)
         if not 1 <= most <= LAST_TURN:
             raise ExploreError(f"C is 1 to {LAST_TURN}")
-        question = match["question"]
-        check_question(question)
-        word = sessions.first_word(question)
-        if word not in NAMES:
-            known = ", ".join(sorted(NAMES))
-            raise ExploreError(f"'{word}' is no question here, which names its turn: {known}")
-        reply = reply_of(machine, question)
-        moves = Moves(question, reply, end_of(question), most, match["how"] == "near")
+        question, sought = match["question"], "".join(until).strip(" \t")
+        reply = reply_of_turn(machine, question)
+        if sought and is_reply(sought, reply):
+            raise ExploreError(f"the reply is that without a move: {reply}")
+        moves = Moves(question, reply, end_of(question), most, match["how"] == "near", sought)
         named = [int(it) for it in (match["events"] or "").split()]
         events = events_of(machine, moves, named)
         return cls(moves, events, 0 if named else len(machine.script) - len(events))
@@ -140,7 +138,7 @@ class Matters:
         """What results are of: the question, the past and its reply."""
         near = " near" if self.moves.is_near else ""
         past = f"past {digest_of(machine)}, reply {self.moves.reply}"
-        return f"# matters{near}: {self.moves.question}, {past}"
+        return f"# matters{near}: {self.moves.asked}, {past}"
 
     @property
     def runs(self) -> dict[tuple[Event, Way], range]:
@@ -181,24 +179,11 @@ class Matters:
                 yield task
 
 
-def reply_of(machine: Machine, question: str) -> str:
-    """The reply without a move. An error if the question is refused."""
-    reply = machine.ask(question)
-    if is_refused(reply):
-        why = explanation(question, reply, machine.setup.version)
-        raise ExploreError(f"{question}: {reply}: {why}")
-    return in_one_line(reply)
-
-
 def events_of(machine: Machine, moves: Moves, named: Sequence[int]) -> list[Event]:
     """The events that are named, or all that can matter."""
     if not named:
         return [it for it in machine.script if moves.can_matter(it)]
-    numbers = {it.number: it for it in machine.script}
-    missing = [it for it in named if it not in numbers]
-    if missing:
-        raise ExploreError(f"no event has the number {missing[0]}; events lists them")
-    return [numbers[it] for it in dict.fromkeys(named)]
+    return named_events(machine, named)
 
 
 def tried(
@@ -206,8 +191,7 @@ def tried(
 ) -> Iterator[tuple[Task, Optional[Change]]]:
     """What comes of each task, as it comes."""
     moves, trial = matters.moves, Trial(machine, matters.moves)
-    stride = max(LEAST_STRIDE, moves.end // STATES)
-    hands = min(hands, 3 * len(matters.events))
+    stride, hands = sparse_stride(moves.end), min(hands, 3 * len(matters.events))
     with Progress(matters.count - matters.known(results), "moves") as progress:
         for task, change in each_of(machine, matters.tasks(results), trial.change, hands, stride):
             farthest = moves.runs(task.event, task.way).stop
@@ -238,7 +222,8 @@ def lines_of(
         if file:
             file.close()
     INTERRUPTS.again()
-    yield from table(moves.question, moves.reply, results.rows(matters.events), moves.is_near)
+    rows = results.rows(matters.events)
+    yield from table(moves.question, moves.reply, rows, moves.is_near, moves.until)
     if matters.left_out:
         events_are = counted(matters.left_out, "event")
         yield f"left out: {events_are}, which no such move brings before turn {moves.end}"
@@ -255,7 +240,7 @@ def parts_of(machine: Machine, matters: Matters) -> Iterator[str]:
     size = max(1, -(-len(matters.events) // JOBS))
     for at in range(0, len(matters.events), size):
         part = matters.events[at : at + size]
-        yield f"{' '.join(places[it] for it in part)} {how}: {moves.question}"
+        yield f"{' '.join(places[it] for it in part)} {how}: {moves.asked}"
 
 
 def gathered(paths: Sequence[str]) -> Iterator[str]:
@@ -268,14 +253,15 @@ def gathered(paths: Sequence[str]) -> Iterator[str]:
     if heading is None:
         raise ExploreError(f"{paths[0]} has no results")
     rows = results.rows({event for event, _ in results.tried})
-    yield from table(heading["question"], heading["reply"], rows, bool(heading["near"]))
+    shown = heading["question"], heading["reply"], rows, bool(heading["near"])
+    yield from table(*shown, heading["until"] or "")
 
 
 @command(
-    "matters [-j N] [-o FILE] [-y] [--jobs FILE] [E ..] [within C|near C]: QUESTION"
+    "matters [-j N] [-o FILE] [-y] [--jobs FILE] [E ..] [within C|near C]: QUESTION [until REPLY]"
     "  or  matters --gather FILE ..",
     r"(?P<words>.+)",
-    "which events a reply depends on, and by how few turns",
+    "which events a reply depends on, and by how few turns; which change makes a reply",
 )
 def matters_command(explorer: Explorer, arguments: Arguments) -> Iterator[str]:
     """Asks QUESTION, a line of the language that names its turn, with each event dropped, and moved
@@ -288,6 +274,9 @@ def matters_command(explorer: Explorer, arguments: Arguments) -> Iterator[str]:
     the next one: both make the same run. With `near C` moves of 1, 2, 4, 8 turns and so on are
     tried until one changes the reply, and then halves. That takes far fewer runs, and may miss a
     nearer move, or the only one.
+    With `until REPLY` a move counts only if it makes the reply that REPLY: the table has the
+    nearest of these, and the last line the nearest of all that was found. REPLY is the reply as it
+    is shown, with or without its first word and zeros before numbers; `..` stands for anything.
     -j N, -o FILE, -y, --jobs FILE and --gather FILE .. are those of `sweep`."""
     words = arguments.text("words")
     wrong = quote_fault(words)

@@ -31,20 +31,33 @@ class Row:
         is_same = self.tried[Way.DROPPED].change is None
         return nearest, is_same, self.event.turn, self.event.number
 
-    def cells(self, beside: "Beside", is_near: bool) -> list[str]:
+    def cells(self, beside: "Beside", is_near: bool, same: str) -> list[str]:
+        """`same` says that no move of those tried is one that is looked for."""
         number, turn, text = self.event
-        dropped = self.tried[Way.DROPPED]
-        moved = [moved_cell(self, it, beside, is_near) for it in (Way.EARLIER, Way.LATER)]
-        return [str(number), str(turn), text, dropped_cell(dropped, beside), *moved]
+        dropped = dropped_cell(self.tried[Way.DROPPED], beside, same)
+        same = "none found" if is_near else same
+        moved = [moved_cell(self, it, beside, is_near, same) for it in (Way.EARLIER, Way.LATER)]
+        return [str(number), str(turn), text, dropped, *moved]
+
+    def nearest(self) -> str:
+        """The edit of the nearest move that is looked for, or else of the drop; empty if none is
+        known."""
+        number, turn, text = self.event
+        moves = {Way.EARLIER: -1, Way.LATER: 1}
+        changes = ((self.tried[way].change, sign) for way, sign in moves.items())
+        shifts = [(it.shift, sign * it.shift) for it, sign in changes if it]
+        if shifts:
+            return f"alter {number} {turn + min(shifts)[1]} {text}"
+        return f"drop {number}" if self.tried[Way.DROPPED].change else ""
 
 
-def dropped_cell(tried: Tried, beside: "Beside") -> str:
+def dropped_cell(tried: Tried, beside: "Beside", same: str) -> str:
     if tried.change:
         return beside.value(tried.change.reply)
-    return "same" if tried.known else "not tried"
+    return same if tried.known else "not tried"
 
 
-def moved_cell(row: Row, way: Way, beside: "Beside", is_near: bool) -> str:
+def moved_cell(row: Row, way: Way, beside: "Beside", is_near: bool, same: str) -> str:
     tried, event = row.tried[way], row.event
     if tried.change:
         doubt = "" if is_near or tried.is_nearest else " or less"
@@ -55,7 +68,7 @@ def moved_cell(row: Row, way: Way, beside: "Beside", is_near: bool) -> str:
     if not tried.same_to:
         return "not tried"
     end = f", turn {last}" if tried.same_to == first else ""
-    return f"{'none found' if is_near else 'same'} (to {tried.same_to}{end})"
+    return f"{same} (to {tried.same_to}{end})"
 
 
 class Beside:
@@ -104,12 +117,15 @@ def parts_of(reply: str) -> list[str]:
     return reply.split(" ")[1:]
 
 
-def table(question: str, reply: str, rows: Sequence[Row], is_near: bool) -> Iterator[str]:
+def table(
+    question: str, reply: str, rows: Sequence[Row], is_near: bool, until: str
+) -> Iterator[str]:
     shown = reply if len(reply) <= LONGEST_REPLY else f"..{reply[-LONGEST_REPLY:]}"
-    yield f"matters: {question}    {shown}"
+    yield f"matters: {question}    {shown}{f'    until {until}' if until else ''}"
     changes = [tried.change for it in rows for tried in it.tried.values()]
     beside = Beside(reply, (it.reply for it in changes if it))
-    cells = [it.cells(beside, is_near) for it in sorted(rows, key=Row.order)]
+    rows = sorted(rows, key=Row.order)
+    cells = [it.cells(beside, is_near, "no" if until else "same") for it in rows]
     if not cells:
         yield "no event is tried"
         return
@@ -120,7 +136,9 @@ def table(question: str, reply: str, rows: Sequence[Row], is_near: bool) -> Iter
             it.rjust(width) if at < TO_THE_RIGHT else it.ljust(width)
             for at, (it, width) in enumerate(zip(row, widths))
         ).rstrip()
-    yield counted(len(rows), "event") + (NEAR if is_near else "")
+    nearest = next(filter(None, map(Row.nearest, rows)), "none") if until else ""
+    found = f"; the nearest change found: {nearest}" if until else ""
+    yield counted(len(rows), "event") + found + (NEAR if is_near else "")
 
 
 def with_values_below(column: Sequence[str]) -> Iterator[str]:

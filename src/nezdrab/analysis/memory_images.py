@@ -2,9 +2,8 @@
 import struct
 from typing import Iterator
 
+from ..core.all_words import memory_lines
 from ..core.engine import MOST_WORDS, Machine
-from ..core.hardware import DRIVE_WORDS
-from ..core.options import UNIT_BYTES
 from ..core.replies import words_of
 
 
@@ -17,14 +16,10 @@ def parsed(replies: Iterator[str]) -> Iterator[list[int]]:
 
 def core_words(machine: Machine, turn: int) -> list[int]:
     """All of core before the turn."""
-    places = range(0, machine.setup.units * UNIT_BYTES, 2 * MOST_WORDS)
-    lines = [f"mem {turn} {at:o} {MOST_WORDS}" for at in places]
-    return [word for words in parsed(machine.read_all(lines)) for word in words]
+    replies = machine.read_all(memory_lines(machine, turn))
+    return [word for words in parsed(replies) for word in words]
 
 
 def drive_image(machine: Machine, turn: int, drive: int) -> bytes:
-    places = range(0, DRIVE_WORDS, MOST_WORDS)
-    lines = [machine.disk_line(turn, drive, at, MOST_WORDS) for at in places]
-    return b"".join(
-        struct.pack(f"<{MOST_WORDS}H", *words) for words in parsed(machine.read_all(lines))
-    )
+    replies = machine.read_all(memory_lines(machine, turn, drive))
+    return b"".join(struct.pack(f"<{MOST_WORDS}H", *words) for words in parsed(replies))

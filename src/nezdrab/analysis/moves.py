@@ -7,6 +7,7 @@ from ..core.errors import ExploreError
 from ..core.language import explanation
 from ..core.past import Event
 from ..core.values import dataclass, field
+from .sought_reply import in_one_line, is_reply
 from .unnoticed import Unnoticed
 
 FIRST_BLOCK, LARGEST_BLOCK = 16, 256  # moves that are tried in one task
@@ -88,13 +89,24 @@ def common(one: range, other: range) -> range:
 class Moves:
     """What is asked with an event moved, the reply without a move, the turn before which events
     count, and by how many turns they are moved at most: by each number of turns, or, if `is_near`,
-    by some that double, and then by halves."""
+    by some that double, and then by halves. `until` is the reply that is looked for, or empty for
+    any other one than that without a move."""
 
     question: str
     reply: str
     end: int
     most: int
     is_near: bool = False
+    until: str = ""
+
+    @property
+    def asked(self) -> str:
+        """What is asked, in the words of a line."""
+        return self.question + (f" until {self.until}" if self.until else "")
+
+    def is_sought(self, reply: str) -> bool:
+        """Whether a move that gives this reply is one that is looked for."""
+        return is_reply(self.until, reply) if self.until else reply != self.reply
 
     def can_matter(self, event: Event) -> bool:
         """Whether the event comes before the end, or a move brings it there."""
@@ -147,7 +159,7 @@ class Trial:
             self.of_turns.setdefault(event.turn, []).append(event)
 
     def change(self, twin: Machine, task: Task) -> Optional[Change]:
-        """The move of a task by the fewest turns that changes the reply. The twin is given the past
+        """The move of a task by the fewest turns that is looked for. The twin is given the past
         back."""
         if not task.runs:
             return None
@@ -180,7 +192,7 @@ class Trial:
         if task.way is Way.EARLIER:
             shifts.reverse()
         replies = self.replies(twin, task, shifts, list(self.back(task.event)))
-        found = [it for it in replies if it.reply != self.moves.reply]
+        found = [it for it in replies if self.moves.is_sought(it.reply)]
         return min(found, key=lambda it: it.shift) if found else None
 
     def nearest_of_each_run(self, twin: Machine, task: Task) -> Iterator[int]:
@@ -241,7 +253,7 @@ class Trial:
     def changed(self, twin: Machine, task: Task, shift: int) -> Optional[Change]:
         """The change by one move, if it is one."""
         (found,) = self.replies(twin, task, range(shift, shift + 1))
-        return None if found.reply == self.moves.reply else found
+        return found if self.moves.is_sought(found.reply) else None
 
     def back(self, event: Event) -> Iterator[str]:
         """The edits that put a moved event back. It comes last in its turn then: so those that came
@@ -263,5 +275,10 @@ def doubled(shifts: range) -> Iterator[int]:
     yield shifts[-1]
 
 
-def in_one_line(reply: str) -> str:
-    return reply.replace("\n", " / ")
+def named_events(machine: Machine, numbers: Sequence[int]) -> list[Event]:
+    """The events with these numbers."""
+    events = {it.number: it for it in machine.script}
+    missing = [it for it in numbers if it not in events]
+    if missing:
+        raise ExploreError(f"no event has the number {missing[0]}; events lists them")
+    return [events[it] for it in dict.fromkeys(numbers)]

@@ -2,27 +2,16 @@
 is there after its turn. The rules are those of docs/MACHINE.md, sections 3 to 5."""
 from typing import Callable, Iterator, Optional, Sequence
 
+from ..core.addressing import PC, SP, addressing_of
 from ..core.engine import Machine
+from ..core.hardware import IO_PAGE, NAMES_IN_THE_IO_PAGE
 from ..core.replies import SPACES, Devices, DiskFunction, Mode, Registers
 from ..core.values import dataclass, field, replace
-from .addressing import PC, SP, addressing_of
 from .levels import pointer
-from .listing import IO_PAGE, NOT_WHOLE, UNIT_BYTES, VIRTUAL
+from .listing import NOT_WHOLE, UNIT_BYTES, VIRTUAL
 from .operands import STACK_LIMIT
 
 STATUS = 0o777776
-PAGES = range(8)
-NAMES_IN_THE_IO_PAGE = {
-    **{0o772300 + 2 * it: f"KPDR{it}" for it in PAGES},
-    **{0o772340 + 2 * it: f"KPAR{it}" for it in PAGES},
-    **{0o777600 + 2 * it: f"UPDR{it}" for it in PAGES},
-    **{0o777640 + 2 * it: f"UPAR{it}" for it in PAGES},
-    **dict(zip(range(0o777400, 0o777414, 2), ("RKDS", "RKER", "RKCS", "RKWC", "RKBA", "RKDA"))),
-    **dict(zip(range(0o777550, 0o777560, 2), ("PRS", "PRB", "PPS", "PPB"))),
-    **dict(zip(range(0o777560, 0o777570, 2), ("TKS", "TKB", "TPS", "TPB"))),
-    **dict(zip(range(0o777570, 0o777600, 2), ("SWR", "SR0", "SR1", "SR2"))),
-    **{0o777546: "LKS", STATUS: "PS"},
-}
 ABORT = 0o250
 NOT_WRITTEN = "and a write is aborted, read only"
 TWICE = "unknown, since the disk may have written it in this turn too"

@@ -3,11 +3,12 @@ docs/MACHINE.md, Operands, and what each write is made of."""
 from enum import Enum
 from typing import NamedTuple, Optional
 
+from ..core.addressing import PC, SP, addressing_of
 from ..core.engine import Machine
+from ..core.hardware import IO_PAGE
 from ..core.replies import Turn
 from ..core.values import dataclass, field
-from .addressing import PC, SP, addressing_of
-from .cells import ALL_CODES, IO_PAGE, KEPT, KSP, MASK, NOTHING, OF_THE_DISK, OUTPUTS
+from .cells import ALL_CODES, KEPT, KSP, MASK, NOTHING, OF_THE_DISK, OUTPUTS
 from .cells import PC as POINT_CELL, PS, REST, USP, Cells, register_cells, word_cells
 from .transfers import Disk, Transfer
 from .turn_cycles import KERNEL, Row, Space

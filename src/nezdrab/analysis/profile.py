@@ -11,7 +11,7 @@ from ..core.in_words import counted, span
 from ..core.replies import INSTRUCTION, Mode, Registers, turns_of, words_of
 from ..core.symbols import FARTHEST
 from ..core.values import dataclass, field
-from .command import Arguments, command
+from .command import Arguments, command, turns_before
 from .counting import MODES, Area, Place, areas_with_turns, counts_at, windows_of
 from .crew import Progress
 from .dump import in_mode, is_read
@@ -301,14 +301,9 @@ def profile_command(explorer: Explorer, arguments: Arguments) -> Iterator[str]:
     counted: some seconds for 10000000. Counted are instructions in kernel and user mode at even
     addresses; interrupts, trace and stack traps, waiting and halted turns are none. In user mode
     all programs with the same virtual addresses count together."""
-    if arguments.optional("first"):
-        turns = range(arguments.decimal("first"), arguments.decimal("last"))
-    else:
-        turns = range(explorer.turn)
-    if not turns:
-        named = arguments.optional("first")
-        no_turn = "the current turn is turn 0: profile N M"
-        raise ExploreError("M isn't above N" if named else no_turn)
+    if not arguments.optional("first") and not explorer.turn:
+        raise ExploreError("the current turn is turn 0: profile N M")
+    turns = turns_before(arguments.decimal("first"), arguments.decimal("last", explorer.turn))
     is_counted = arguments.optional("whole") or len(turns) <= EXACT_TURNS
     made = counted_profile if is_counted else sampled_profile
     yield from profile_lines(explorer, made(explorer.machine, turns))

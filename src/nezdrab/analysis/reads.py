@@ -1,55 +1,68 @@
-"""Who read a word of core: `reads`."""
-from typing import Iterator, Sequence
+"""Who read a word of core, or read or wrote a register: `reads`."""
+from typing import Iterable, Iterator, Sequence, Union
 
-from ..core.errors import ExploreError
 from ..core.in_words import counted, span
-from ..core.interrupts import INTERRUPTS
-from ..core.replies import WordRead
+from ..core.places import is_register
+from ..core.replies import LastWrite, WordRead
 from .command import Arguments, command, searched_range
-from .disk_words import functions_in_words
+from .crew import stopped_by
+from .disk_words import acts_in_words
 from .explorer import Explorer
-from .finder import Finder
-from .listing import turns_in_words
 
 MOST_SHOWN, SHOWN_AT_ONCE = 256, 16
 
 
+# What is listed: turns with who read or wrote, and the word.
+Listed = Union[WordRead, LastWrite]
+
+
 class Looked:
-    """The reads of a word in turns that are looked at: all, or those that are shown and one."""
+    """The reads or the writes in turns that are looked at: all, or those that are shown and one."""
 
     def __init__(self, turns: range):
-        self.turns, self.found = turns, list[WordRead]()
+        self.turns, self.found = turns, list[Listed]()
         self.end = turns.start  # the turn before which they were looked at
         self.stopped = ""
 
-    def look(self, finder: Finder, address: int) -> None:
-        try:
-            for found, end in finder.reads(self.turns, address):
-                self.found += found
-                self.end = end
-                if len(self.found) > MOST_SHOWN:
-                    break
-        except KeyboardInterrupt:
-            INTERRUPTS.again()
-            self.stopped = "stopped"
-        except ExploreError as error:
-            self.stopped = str(error)
+    def look(self, parts: Iterable[tuple[Sequence[Listed], int]]) -> Iterator[None]:
+        for found, end in parts:
+            self.found += found
+            self.end = end
+            yield
+            if len(self.found) > MOST_SHOWN:
+                return
+
+    def last_line(self, what: str, address: int) -> str:
+        """How many there are, or how the search goes on."""
+        if len(self.found) > MOST_SHOWN:
+            on = f"{what}s {address:o} from {self.found[MOST_SHOWN].turn} to {self.turns[-1]}"
+            return f"{MOST_SHOWN} {what}s or more; on: {on}"
+        count = counted(len(self.found), what)
+        if self.stopped:
+            where = f"before turn {self.end}"
+            return f"{count} {where}; the turns from there on: {self.stopped}"
+        return f"{count} in {span(self.turns)}"
 
 
-def rows(explorer: Explorer, found: Sequence[WordRead]) -> Iterator[str]:
-    """A line for each of these reads, which ascend."""
-    by_disk = [it.turn for it in found if it.reader == "disk"]
-    by_processor = [it.turn for it in found if it.reader != "disk"]
-    by = functions_in_words(explorer, by_disk, {})
-    by.update(zip(by_processor, turns_in_words(explorer, by_processor)))
-    for it in found:
-        yield f"turn {it.turn}: {it.reader} {it.word:06o}, by {by[it.turn]}"
+def rows(explorer: Explorer, found: Sequence[Listed]) -> Iterator[str]:
+    """A line for each of these, which ascend."""
+    who = [it.reader if isinstance(it, WordRead) else it.writer for it in found]
+    by = acts_in_words(explorer, [(it.turn, agent) for it, agent in zip(found, who)])
+    for it, agent in zip(found, who):
+        yield f"turn {it.turn}: {agent} {it.word:06o}, by {by[it.turn, agent]}"
+
+
+def looked_lines(explorer: Explorer, looked: Looked, what: str, address: int) -> Iterator[str]:
+    shown = looked.found[:MOST_SHOWN]
+    for at in range(0, len(shown), SHOWN_AT_ONCE):
+        yield from rows(explorer, shown[at : at + SHOWN_AT_ONCE])
+    yield looked.last_line(what, address)
 
 
 @command(
     "reads A [from N] [to M]",
-    r"<address:address>{from}{to}",
-    "the reads of a core word, and who read it",
+    r"<address:place>{from}{to}",
+    "the reads of a core word or a register, and who read it",
 )
 def reads_command(explorer: Explorer, arguments: Arguments) -> Iterator[str]:
     """Lists each of the turns N to M that reads the core word at A: who reads it, the processor or
@@ -59,24 +72,21 @@ def reads_command(explorer: Explorer, arguments: Arguments) -> Iterator[str]:
     Of a turn with more than one read the first is listed, which is the disk's if the disk and the
     processor both read the word. Without `from` N is 0. Without `to` M is a million turns past the
     greatest turn that was asked so far. It is exact. After 256 reads the list is cut, and the last
-    line says how it goes on. Ctrl-C ends it, and what was found up to there is shown."""
+    line says how it goes on. Ctrl-C ends it, and what was found up to there is shown.
+    A may be a register on the bus: a name, TKS TKB TPS TPB PRS PRB PPS PPB LKS RKDS RKER RKCS RKWC
+    RKBA RKDA SWR SR0 SR1 SR2 PS, KPAR0 to KPAR7, KPDR0, UPAR0, UPDR0 and so on; 777562, its address
+    there; or 177562, if core has no such word. The reads are those that the processor makes at this
+    address. A million turns take some 15 s, or a minute if mapping changes in every hundred."""
     turns, address = searched_range(explorer, arguments), arguments.octal("address")
-    explorer.machine.check_taken(f"reads 0 0 {address:o}")
+    if not is_register(address):
+        explorer.machine.check_taken(f"reads 0 0 {address:o}")
     looked = Looked(turns)
-    looked.look(explorer.finder, address)
-    shown = looked.found[:MOST_SHOWN]
-    for at in range(0, len(shown), SHOWN_AT_ONCE):
-        yield from rows(explorer, shown[at : at + SHOWN_AT_ONCE])
-    yield last_line(looked, address)
+    looked.stopped = stopped_by(looked.look(explorer.finder.reads(turns, address)))
+    yield from looked_lines(explorer, looked, "read", address)
 
 
-def last_line(looked: Looked, address: int) -> str:
-    """How many reads there are, or how the search goes on."""
-    if len(looked.found) > MOST_SHOWN:
-        on = f"reads {address:o} from {looked.found[MOST_SHOWN].turn} to {looked.turns[-1]}"
-        return f"{MOST_SHOWN} reads or more; on: {on}"
-    count = counted(len(looked.found), "read")
-    if looked.stopped:
-        where = f"before turn {looked.end}"
-        return f"{count} {where}; the turns from there on: {looked.stopped}"
-    return f"{count} in {span(looked.turns)}"
+def register_writes(explorer: Explorer, turns: range, place: int) -> Iterator[str]:
+    """The writes of a register."""
+    looked = Looked(turns)
+    looked.stopped = stopped_by(looked.look(explorer.finder.writes_of(turns, place)))
+    yield from looked_lines(explorer, looked, "write", place)

@@ -11,7 +11,7 @@ from ..core.files import write_whole
 from ..core.hardware import DELAYS
 from ..core.in_words import counted, some_are
 from ..core.options import option_lines, options_of_words
-from ..core.past import MOST_EVENTS
+from ..core.past import MOST_EVENTS, Event
 from ..core.replies import Devices
 from ..core.sessions import words_of
 from .command import Arguments, command, turns_between
@@ -29,8 +29,11 @@ def events(explorer: Explorer, arguments: Arguments) -> Iterator[str]:
     a key its character."""
     script = explorer.machine.script
     yield counted(len(script), "event")
-    lines = [f"event {it.number:>5}  at {it.turn:>10}  {it.explained()}" for it in script]
-    yield from map("\n".join, in_parts(lines, EVENTS_AT_ONCE))
+    yield from map("\n".join, in_parts(list(map(event_line, script)), EVENTS_AT_ONCE))
+
+
+def event_line(event: Event) -> str:
+    return f"event {event.number:>5}  at {event.turn:>10}  {event.explained()}"
 
 
 def past_lines(machine: Machine) -> Iterator[str]:

@@ -5,9 +5,9 @@ from typing import Iterator, NamedTuple, Optional, Sequence
 
 from ..core.engine import Machine
 from ..core.errors import ExploreError
+from ..core.hardware import IO_PAGE
 from ..core.replies import MODES, Mode, Turn, words_of
 from ..core.values import dataclass, field
-from .cells import IO_PAGE
 from .transfers import UNIT_BYTES, Transfer
 
 BLOCK = 0o100  # the bytes of a block, which mapping moves as one

@@ -2,9 +2,9 @@
 the order of docs/MACHINE.md, What happens in order."""
 from typing import Iterator, Optional, Sequence
 
+from ..core.addressing import PC, SP
 from ..core.engine import Machine
 from ..core.replies import INSTRUCTION
-from .addressing import PC, SP
 from .cells import ALL_CODES, C, KSP, MASK, N, NAMES, NOTHING, OF_THE_DISK, REST, Cells
 from .cells import register_cells, word_cells
 from .crew import Progress

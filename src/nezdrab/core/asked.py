@@ -12,6 +12,7 @@ SEARCHES = [it for it in sessions.SEARCHES if " N" in it.form and "EDIT" not in 
 QUESTIONS = sessions.QUESTIONS | {sessions.command_of(it) for it in SEARCHES}
 NAMES = frozenset(it.decode() for it in QUESTIONS)
 MOST_DIGITS = 10
+LEAST_SPARSE_STRIDE, SPARSE_STATES = 50_000, 8
 LEAST_STRIDE, KEPT_STATES = 64, 250  # the program keeps 256, and then doubles the stride
 
 
@@ -38,6 +39,12 @@ def stride_before(first: int, question: str) -> Optional[int]:
     asked = turns_of_question(question)
     least = max(LEAST_STRIDE, asked[1] // KEPT_STATES if asked else first)
     return first // (first // least) if first >= least else None
+
+
+def sparse_stride(end: int) -> int:
+    """A stride with few states between an edit and a question about turn `end`, for many edits
+    whose runs soon meet the one before: each of these states is taken over."""
+    return max(LEAST_SPARSE_STRIDE, end // SPARSE_STATES)
 
 
 @dataclass

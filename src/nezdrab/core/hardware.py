@@ -17,3 +17,19 @@ INTERRUPTS = {
 }
 # How many turns an operation of a device takes, and the period of the clock, if no `delay` says so.
 DELAYS = {"printer": 1, "reader": 4, "punch": 4, "disk": 10, "clock": 0}
+
+# The I/O page: where it begins on the bus and, without mapping, in a program's addresses. Its
+# registers by their physical addresses.
+IO_PAGE, IO_PAGE_OF_PROGRAMS = 0o760000, 0o160000
+PAGES = range(8)
+NAMES_IN_THE_IO_PAGE = {
+    **{0o772300 + 2 * it: f"KPDR{it}" for it in PAGES},
+    **{0o772340 + 2 * it: f"KPAR{it}" for it in PAGES},
+    **{0o777600 + 2 * it: f"UPDR{it}" for it in PAGES},
+    **{0o777640 + 2 * it: f"UPAR{it}" for it in PAGES},
+    **dict(zip(range(0o777400, 0o777414, 2), ("RKDS", "RKER", "RKCS", "RKWC", "RKBA", "RKDA"))),
+    **dict(zip(range(0o777550, 0o777560, 2), ("PRS", "PRB", "PPS", "PPB"))),
+    **dict(zip(range(0o777560, 0o777570, 2), ("TKS", "TKB", "TPS", "TPB"))),
+    **dict(zip(range(0o777570, 0o777600, 2), ("SWR", "SR0", "SR1", "SR2"))),
+    **{0o777546: "LKS", 0o777776: "PS"},
+}

@@ -7,11 +7,13 @@ import os
 import re
 import weakref
 from contextlib import contextmanager
+from heapq import merge
 from pathlib import Path
 from typing import Any, Iterable, Iterator, NoReturn, Optional, Sequence, SupportsIndex
 from typing import TypeVar, Union, overload
 
 from . import questions
+from .all_words import written
 from .arguments import Key, Option, StrPath, asks, event_text, options_in_words
 from .engine import MOST_TURNS_OF_A_TRAIL, SHORT_SENT_AHEAD, Machine as Engine, Refused, Start
 from .engine import is_refused
@@ -20,20 +22,25 @@ from .files import Output
 from .found import Found, Transfer, going_on
 from .in_words import counted
 from .language import explanation, is_edit
+from .logged import log
 from .options import Options, check_session, faults_of, option_lines, options_of_session
 from .options import options_of_words, words_of_options
 from .past import Event
+from .places import REGISTERS, is_register, place_of, register_of
 from .programs import found_program
 from .questions import Address, ModeName, Question, decimal, octal
+from .register_search import items_at, reads_at, writes_at
 from .replies import LastWrite, Mode, TurnAccesses, WordRead
 from .session_file import made_edits
+from .struck import StruckKey, struck_keys
 from .symbols import ADDRESS, OCTAL, Symbols
+from .trials import Trials
 from .words import Core, Drive
 
 Answer = TypeVar("Answer")
 
 
-class Machine:
+class Machine(Trials):
     """A recorded PDP-11/40: what it starts from, the script of its events, and any turn of its run.
 
     `Machine(core="core.image", disk="rk05.disk", start=0o1000)` starts with these images; without
@@ -173,6 +180,12 @@ class Machine:
         if not re.fullmatch(OCTAL, name) and not self.symbols.named(name, mode):
             raise ExploreError(f"there is no symbol {name!r}; Machine.read_symbols takes a file's")
         return self.symbols.number(address, mode)
+
+    def _place(self, address: Address) -> int:
+        """The address of a word of core, or the place of a register on the bus."""
+        if isinstance(address, str) and address.upper() in REGISTERS:
+            return place_of(self._engine, self.symbols, address)
+        return register_of(self._engine, self._number(address))
 
     # Edits
 
@@ -350,23 +363,47 @@ class Machine:
         self, address: Address, *, until: SupportsIndex, since: SupportsIndex = 0
     ) -> Iterator[LastWrite]:
         """The turns of the range that write a word of core, in their order: `.turn`, the `.writer`,
-        cpu or disk, and the `.word`; of a turn that writes it more than once the last write."""
+        cpu or disk, and the `.word`; of a turn that writes it more than once the last write. The
+        address may be a register on the bus, as "TPB" or 0o777566."""
+        place = self._place(address)
+        if is_register(place):
+            return items_at(writes_at, self._engine, since, until, place)
 
         def found(begin: int) -> Found[LastWrite]:
             return self.ask(questions.writes(address, since=begin, until=until))
 
         return going_on(found, operator.index(since), lambda it: it.turn + 1)
 
+    def writes_in(
+        self, begin: Address, end: Address, *, until: SupportsIndex, since: SupportsIndex = 0
+    ) -> Iterator[tuple[int, LastWrite]]:
+        """The same for the words of core from `begin` to `end`, that one too: each write with the
+        address of its word. Words that aren't written take hardly any time."""
+        first, turns = self._number(begin), range(operator.index(since), operator.index(until))
+        words = written(self._engine, turns, range(first, self._number(end) + 1, 2))
+
+        def of_word(address: int, part: range) -> Iterator[tuple[int, LastWrite]]:
+            found = self.writes(address, since=part.start, until=part.stop)
+            return ((address, it) for it in found)
+
+        yield from merge(*map(of_word, words, words.values()), key=lambda it: (it[1].turn, it[0]))
+
     def reads(
         self, address: Address, *, until: SupportsIndex, since: SupportsIndex = 0
     ) -> Iterator[WordRead]:
         """The turns of the range that read a word of core, in their order: `.turn`, the `.reader`,
-        cpu or disk, and the `.word`; of a turn that reads it more than once the first read."""
+        cpu or disk, and the `.word`; of a turn that reads it more than once the first read. The
+        address may be a register on the bus, as "TKB" or 0o777562."""
+        place = self._place(address)
+        if is_register(place):
+            return items_at(reads_at, self._engine, since, until, place)
 
         def found(begin: int) -> Found[WordRead]:
             return self.ask(questions.reads(address, since=begin, until=until))
 
         return going_on(found, operator.index(since), lambda it: it.turn + 1)
+
+    log = log
 
     def accesses(
         self, turn: SupportsIndex, count: SupportsIndex = 1
@@ -383,6 +420,14 @@ class Machine:
             return Found(it.items, it.is_all and until == end)
 
         return going_on(found, end - turns, lambda it: it.turn.turn + 1)
+
+    def struck(
+        self, *, until: SupportsIndex, since: SupportsIndex = 0
+    ) -> Iterator[StruckKey]:
+        """What became of each key of the range: its `.event`, and its `.fate`, a Fate, in the
+        `.turn` that is so many turns later as `.delay`. OVERWRITTEN `.by` another key, and DROPPED
+        by RESET, it is lost; READ by the program it isn't; or it WAITS before `until`."""
+        return struck_keys(self._engine, range(operator.index(since), operator.index(until)))
 
     def transfers(
         self, *, until: SupportsIndex, since: SupportsIndex = 0
@@ -441,47 +486,6 @@ class Machine:
             return self.ask(questions.finddsk(turn, at, end, word, mask=mask, drive=drive))
 
         return going_on(found, operator.index(begin), lambda it: it + 1)
-
-    # One event at each of many turns
-
-    @overload
-    def sweep(
-        self,
-        event: Union[SupportsIndex, str],
-        turns: Iterable[SupportsIndex],
-        question: str,
-        *,
-        processes: int = 1,
-    ) -> Iterator[tuple[int, str]]:
-        ...
-
-    @overload
-    def sweep(
-        self,
-        event: Union[SupportsIndex, str],
-        turns: Iterable[SupportsIndex],
-        question: Question[Answer],
-        *,
-        processes: int = 1,
-    ) -> Iterator[tuple[int, Answer]]:
-        ...
-
-    def sweep(
-        self,
-        event: Union[SupportsIndex, str],
-        turns: Iterable[SupportsIndex],
-        question: Union[str, Question[Any]],
-        *,
-        processes: int = 1,
-    ) -> Iterator[tuple[int, Any]]:
-        """Each of the turns with the answer to the question if the event were there: a new event,
-        such as "tick", or the one with this number, moved. The past stays as it is. Turns are taken
-        as answers are: both may go on for ever."""
-        from .sweeping import Sweep  # which few need
-
-        asked = questions.question_of(question)
-        swept = Sweep.of(self._engine, event, asked.lines(self._number))
-        yield from swept.answers(turns, asked.read, processes)
 
 
 def end_of_its_process(engine: Engine, process: int) -> None:

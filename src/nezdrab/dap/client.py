@@ -23,6 +23,7 @@ class Debuggee:
     def __init__(self, launched: Launched, say: Callable[[str], None]):
         self.explorer, self.sources, self.end = launched.explorer, launched.sources, launched.end
         self.prompt = Console(self.explorer, say)
+        self.explorer.breakpoints.say = say
         self.points = Points(self.explorer, self.sources)
         self.known, self.past = KnownCalls(), self.of_past()
         self.stack: Optional[tuple[int, list[Frame], bool]] = None

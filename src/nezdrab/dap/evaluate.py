@@ -3,12 +3,10 @@ import re
 from typing import Callable, Container, Iterable, Iterator, Optional
 
 from ..analysis.explorer import Explorer
-from ..analysis.levels import pointer
-from ..analysis.listing import UNIT_BYTES
 from ..core import sessions
 from ..core.errors import ExploreError, LineRefused
+from ..core.expressions import Before
 from ..core.language import FORMS, LISTS, SEARCHES
-from ..core.replies import SPACES, Mode
 from ..core.values import dataclass
 from ..shell.commands import COMMANDS, ENDS
 from ..shell.completion import HELP, completions
@@ -17,8 +15,6 @@ from ..shell.output import LINES
 from ..shell.prompt import BLANKS, Prompt
 from .memory import reference
 from .wire import Object
-
-WORD = re.compile(r"((?P<space>core|kernel|user)[ \t]+)?(?P<address>\S+)")
 
 
 class Console(Prompt):
@@ -45,69 +41,16 @@ class Value:
 
 
 def value_of(explorer: Explorer, expression: str, turn: int) -> Optional[Value]:
-    """The value of a register, or of the word of core at an address, before the turn; None if the
-    expression is neither. A symbol is an address of the mode that alone has it, or otherwise of
-    the mode before the turn; a number is an address of core, if no mode is named."""
-    registers = explorer.machine.registers(turn)
-    names = {**registers.words, "SP": registers.words[pointer(registers.mode)]}
-    name = expression.upper()
-    if name in names:
-        return Value(f"{names[name]:06o}", reference(registers.mode, names[name]))
-    if name.isalnum() and name.isalpha():
-        word = explorer.machine.devices(turn).words.get(name)
-        if word is not None:
-            return Value(f"{word:06o}", reference(None, word))
-    found = WORD.fullmatch(expression)
-    if found is None or not (
-        sessions.words_of(expression) and explorer.symbols.is_named(found["address"])
-        or re.fullmatch("[0-7]{1,6}", found["address"])
-    ):
-        return None
-    mode = mode_of(explorer, found["space"], found["address"], registers.mode)
-    return word_at(explorer, mode, explorer.symbols.number(found["address"], mode), turn)
-
-
-def mode_of(
-    explorer: Explorer, space: Optional[str], address: str, current: Mode
-) -> Optional[Mode]:
-    """The mode whose address this is, or None if it is one of core."""
-    if space:
-        return None if space == "core" else Mode(space)
-    numbers = explorer.symbols.numbers
-    name = re.split(r"[+-]", address)[0]
-    modes = [it for it in numbers if explorer.symbols.named(name, it)]
-    if not modes:
-        return None
-    return modes[0] if len(modes) == 1 else current if current in SPACES else Mode.KERNEL
-
-
-def word_at(explorer: Explorer, mode: Optional[Mode], address: int, turn: int) -> Value:
-    """The word at an address before a turn."""
-    place = core_of(explorer, mode, address, turn)
-    return Value(f"{explorer.machine.word(turn, place):06o}", reference(mode, address))
-
-
-def core_of(explorer: Explorer, mode: Optional[Mode], address: int, turn: int) -> int:
-    """The address of core that an address is before a turn."""
-    place: Optional[int] = address
-    if mode is not None:
-        place = next(explorer.machine.places([(turn, mode, address)]))
-    if place is None or place >= explorer.machine.setup.units * UNIT_BYTES:
-        raise ExploreError(f"{address:o} is no address of core before turn {turn}")
-    if place % 2:
-        raise ExploreError(f"{address:o} is odd")
-    return place
-
-
-def core_of_expression(explorer: Explorer, expression: str) -> int:
-    """The address of core of the word that an expression names."""
-    found, turn = WORD.fullmatch(expression), explorer.turn
+    """The value of a register, or of the word at an address, before the turn; None if the
+    expression is neither."""
+    found = before(explorer, turn).named(expression)
     if found is None:
-        raise ExploreError(f"'{expression}' is no address")
-    mode = mode_of(
-        explorer, found["space"], found["address"], explorer.machine.registers(turn).mode
-    )
-    return core_of(explorer, mode, explorer.symbols.number(found["address"], mode), turn)
+        return None
+    return Value(f"{found.word:06o}", reference(found.mode, found.address))
+
+
+def before(explorer: Explorer, turn: int) -> Before:
+    return Before(explorer.machine, explorer.symbols, turn)
 
 
 def is_line(explorer: Explorer, line: str) -> bool:

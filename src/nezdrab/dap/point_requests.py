@@ -1,29 +1,18 @@
 """Requests that set breakpoints."""
-from typing import Callable, Iterator
+from typing import Callable, Iterator, Optional
 
+from ..analysis.explorer import Explorer
 from ..core.errors import ExploreError
+from ..core.places import REGISTERS, is_register, place_of
 from . import memory
 from .client import Client
-from .evaluate import core_of_expression
+from .evaluate import before
 from .fields import Fields
 from .points import ACCESSES, DATA, FUNCTIONS, INSTRUCTIONS, LINES, VECTORS
 from .sources import Place
 from .table import request
 from .variables import Scope, variables
 from .wire import Object
-
-
-LACKING = {
-    "hitCondition": "no hits are counted here: a condition, such as core 2000 = 3, names the time",
-    "logMessage": "no breakpoint logs here, each stops: see and changes list turns in the console",
-}
-
-
-def check_done(fields: Fields) -> None:
-    """An error if a breakpoint has what isn't done here."""
-    for name, why in LACKING.items():
-        if fields.text(name, ""):
-            raise ExploreError(f"{name}: {why}")
 
 
 def each_set(
@@ -33,8 +22,7 @@ def each_set(
     shown: list[Object] = []
     for it in items:
         try:
-            check_done(it)
-            shown.append({"verified": True, **make(it)})
+            shown.append({"verified": True, **client.it.points.made(it, make)})
         except ExploreError as error:
             line = {"line": it.values["line"]} if type(it.values.get("line")) is int else {}
             shown.append({"verified": False, "message": str(error), **line})
@@ -93,30 +81,42 @@ def set_exception_breakpoints(client: Client, fields: Fields) -> Object:
 
 @request("dataBreakpointInfo")
 def data_breakpoint_info(client: Client, fields: Fields) -> Object:
-    """Whether accesses to what is named can be found: those of words of core can."""
+    """Whether accesses to what is named can be found: those of words of core and of registers on
+    the bus can."""
     name, core = fields.text("name"), None
+    at_turn = before(client.explorer, client.explorer.turn)
     try:
-        if fields.has("variablesReference"):
+        place = register_named(client.explorer, name)
+        if place is not None:
+            core, name = place, name.upper()
+        elif fields.has("variablesReference"):
             scope = client.named_as(fields.number("variablesReference"), Scope)
             found = variables(client.explorer, scope)
             core = next((it.core for it in found if it.name == name), None)
         elif fields.truth("asAddress", False):
-            place = memory.place_of(name)
-            core = core_of_expression(client.explorer, in_words(place))
+            core = at_turn.core_of_expression(in_words(memory.place_of(name)))
         else:
-            core = core_of_expression(client.explorer, name)
+            core = at_turn.core_of_expression(name)
     except ExploreError as error:
         return {"dataId": None, "description": f"{name}: {error}"}
     if core is None:
         described = f"{name} is no word of core, whose accesses can be found"
         return {"dataId": None, "description": described}
-    where = f"core {core:06o}"
+    where = f"{'register' if is_register(core) else 'core'} {core:06o}"
     return {
         "dataId": f"core {core:o}",
         "description": where if where.endswith(name) else f"{name}, {where}",
         "accessTypes": list(ACCESSES),
         "canPersist": True,
     }
+
+
+def register_named(explorer: Explorer, name: str) -> Optional[int]:
+    """The place of a register on the bus with this name."""
+    if name.upper() not in REGISTERS:
+        return None
+    found = place_of(explorer.machine, explorer.symbols, name)
+    return found if is_register(found) else None
 
 
 def in_words(place: Place) -> str:

@@ -1,17 +1,18 @@
 """Breakpoints of an editor, as breakpoints of explore: `breakpoints` in the console lists them."""
 import os
 import re
-from typing import Iterator
+from typing import Callable, Iterator
 
 from ..analysis.breaking import condition_sought
 from ..analysis.breakpoints import Breakpoint
 from ..analysis.explorer import Explorer
 from ..core.errors import ExploreError
+from ..core.expressions import Before
 from ..core.hardware import INTERRUPTS
 from ..core.replies import SPACES
-from ..core.values import dataclass, field
+from ..core.values import dataclass, field, replace
 from ..shell.commands import COMMANDS
-from .conditional import ConditionalTurn, ConditionalWrite
+from .conditional import ConditionalAccess, ConditionalTurn, ConditionalWrite, Counted, check_hit
 from .fields import Fields
 from .sources import Place, Sources, source
 from .wire import Object
@@ -41,6 +42,14 @@ def filters() -> Iterator[Object]:
                 "supportsCondition": True,
                 "conditionDescription": "what holds before the turn, such as R0 = 5 and user",
             }
+
+
+def with_hits(point: Breakpoint, hit: str) -> Breakpoint:
+    """One that holds at those hits alone, if there is a condition of them."""
+    if not hit.strip():
+        return point
+    named = point.number, f"{point.text}, hits {hit.strip()}", point.sought, point.address
+    return Counted(*named, point.is_read, point.message, of=point, hit=hit)
 
 
 @dataclass
@@ -78,6 +87,22 @@ class Points:
         """Puts this one in the place of the last."""
         self.explorer.breakpoints.points[-1] = point
 
+    def made(self, fields: Fields, make: Callable[[Fields], Object]) -> Object:
+        """What the editor gets to know of a new one, which may count its hits and log."""
+        hit, message = fields.text("hitCondition", ""), fields.text("logMessage", "")
+        explorer, before = self.explorer, self.explorer.breakpoints.count
+        if hit.strip():
+            check_hit(hit)
+        Before(explorer.machine, explorer.symbols, explorer.turn).filled(message)
+        shown, points = make(fields), explorer.breakpoints.points
+        added = [at for at, it in enumerate(points) if it.number > before]
+        if hit.strip() and len(added) > 1:
+            del points[added[0] :]
+            raise ExploreError("hitCondition: it has several places or accesses, each with hits")
+        for at in added:
+            points[at] = with_hits(replace(points[at], message=message), hit)
+        return shown
+
     # What the requests set. Each sets one, and returns what the editor gets to know of it.
 
     def of_line(self, path: str, fields: Fields, to_machine: int) -> Object:
@@ -112,20 +137,18 @@ class Points:
         access, condition = fields.text("accessType", "write"), fields.text("condition", "")
         if access not in ACCESSES:
             raise ExploreError(f"'{access}' is no accessType: {', '.join(ACCESSES)}")
-        if access != "write":
-            if condition:
-                raise ExploreError("a data breakpoint of reads takes no condition here")
-            points = [self.added(f"{it} {address[1]}", DATA) for it in ACCESSES[access]]
-            self.editors.update((it.number, points[0].number) for it in points)
-            return {"id": points[0].number}
         sought = condition_sought(self.explorer, [condition]) if condition else ""
-        point = self.added(f"watch {address[1]}", DATA)
-        if sought:
-            text = f"{point.text} if {condition}"
-            self.replace(
-                ConditionalWrite(point.number, text, "", point.address, condition=sought)
-            )
-        return {"id": point.number}
+        numbers: list[int] = []
+        for word in ACCESSES[access]:
+            it = self.added(f"{word} {address[1]}", DATA)
+            numbers.append(it.number)
+            if sought:
+                is_write = not it.is_read and not it.is_of_register
+                kind = ConditionalWrite if is_write else ConditionalAccess
+                named = it.number, f"{it.text} if {condition}", "", it.address, it.is_read
+                self.replace(kind(*named, condition=sought))
+        self.editors.update((it, numbers[0]) for it in numbers)
+        return {"id": numbers[0]}
 
     def of_vector(self, name: str, condition: str = "") -> Object:
         if name not in {it["filter"] for it in filters()}:

@@ -10,7 +10,8 @@ from ..analysis.finder import growing_parts
 from ..analysis.levels import Call, Return, Stacks, call_in
 from ..core.engine import LAST_TURN
 from ..core.errors import ExploreError
-from ..core.values import dataclass, field
+from ..core.expressions import Before
+from ..core.values import dataclass, field, replace
 from .frames import Frame
 
 # The first of some turns at which something is reached, such as the end of a routine.
@@ -80,13 +81,39 @@ def first_stop(explorer: Explorer, part: range, begin: int, goal: Optional[Goal]
     return joined(behind, at_points(explorer, also.turn, also.points, False)) if also else behind
 
 
+def first_unlogged(
+    explorer: Explorer, part: range, begin: int, goal: Optional[Goal]
+) -> Generator[None, None, tuple[Optional[Stop], int]]:
+    """The first stop that isn't one of messages alone, each of which is said on the way, and the
+    turn up to which all are said."""
+    stop = first_stop(explorer, part, begin, goal)
+    while stop is not None and any(it.message for it in stop.points):
+        say_messages(explorer, stop)
+        is_goal = goal is not None and goal(range(stop.turn, stop.turn + 1)) is not None
+        stopping = [it for it in stop.points if not it.message]
+        if stopping or is_goal:
+            return replace(stop, points=stopping, reason="" if stopping else "step"), begin
+        begin = explorer.turn = stop.turn
+        yield
+        stop = first_stop(explorer, range(begin, part.stop), begin, goal)
+    return stop, begin
+
+
+def say_messages(explorer: Explorer, stop: Stop) -> None:
+    before = Before(explorer.machine, explorer.symbols, stop.turn)
+    for it in stop.points:
+        if it.message:
+            explorer.breakpoints.say(before.filled(it.message))
+
+
 def ahead(explorer: Explorer, end: int, goal: Optional[Goal] = None) -> Run:
     """On to the first breakpoint or to the goal. Between the parts the current turn is the last one
     that was looked at."""
     begin = explorer.turn
-    for part in growing_parts(range(begin, max(begin, end))):
+    largest = explorer.breakpoints.largest_part
+    for part in growing_parts(range(begin, max(begin, end)), largest=largest):
         yield
-        stop = first_stop(explorer, part, begin, goal)
+        stop, begin = yield from first_unlogged(explorer, part, begin, goal)
         if stop is not None:
             return stop
         if not explorer.breakpoints.points and goal is None:
@@ -101,15 +128,16 @@ def back(explorer: Explorer, bottom: int = 0, reason: str = "entry") -> Run:
     if explorer.turn == 0:
         raise ExploreError(AT_POWER_UP)
     machine, turns = explorer.machine, range(bottom, explorer.turn)
-    points = explorer.breakpoints.points
-    writes = [it for it in points if it.address is not None and not it.is_read]
+    points = [it for it in explorer.breakpoints.points if not it.message]
+    quick = [it for it in points if not it.is_read and not it.is_of_register]
+    writes = [it for it in quick if it.address is not None]
     sought = Breakpoints([it for it in points if it not in writes])
     yield
     lasts = [(it.last(machine, turns), it) for it in writes]
     low = max((turn for turn, _ in lasts if turn is not None), default=bottom)
     written = [it for turn, it in lasts if turn == low]
     looked = range(low, turns.stop if sought.points else low)
-    for part in growing_parts(looked, is_backwards=True):
+    for part in growing_parts(looked, True, explorer.breakpoints.largest_part):
         yield
         reached = sought.reached(machine, part, is_backwards=True)
         if reached is not None:

@@ -15,7 +15,7 @@ SUPPORTED = """
     SetVariable RestartFrame GotoTargetsRequest CompletionsRequest ExceptionFilterOptions
     ExceptionInfoRequest LoadedSourcesRequest TerminateRequest DataBreakpoints ReadMemoryRequest
     DisassembleRequest CancelRequest BreakpointLocationsRequest SteppingGranularity
-    InstructionBreakpoints DelayedStackTraceLoading
+    InstructionBreakpoints DelayedStackTraceLoading HitConditionalBreakpoints LogPoints
 """.split()
 
 

@@ -29,7 +29,7 @@ def page(explorer: Explorer, arguments: Arguments) -> Iterator[str]:
     anything: the page that `./explore web` opens, with the past as it is now. It draws the turns
     and the words that you name there, moves events, and answers questions. It has the options with
     their images, the patches, tape, delays and events, the symbols of places, and what comments
-    `# name core A NAME` of SESSION call words; events are numbered anew, in their order. Neither
+    `# name core A NAME` of SESSION call words, with its story; events are numbered anew. Neither
     breakpoints and displays, nor words that were defined, nor what `undo` would take back are in
     it. It shows the turns up to N, or to the last one that you or SESSION asked about, and to the
     last event. With #turn=T at the end of its address it opens at turn T. FILE ends in .html."""

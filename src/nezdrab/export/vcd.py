@@ -1,19 +1,20 @@
 """A range of turns as a value change dump, the file of GTKWave and other viewers of waves."""
 from typing import Iterable, Iterator, Optional, Sequence
 
-from ..analysis.batches import KSP, PC, PLACE, PS, STATE, USP, Batch, batches_of
+from ..analysis.batches import Batch, batches_of
 from ..analysis.call_steps import turns_with
 from ..analysis.explorer import Explorer
 from ..analysis.finder import Finder
 from ..analysis.routines import Labels
 from ..core.engine import Machine
 from ..core.in_words import span
+from ..core.register_rows import GENERAL, KSP, PC, PLACE, PS, STATE, USP
 from ..core.replies import DISK_READY, DiskFunction, Mode, Registers, Turn
 from ..core.values import dataclass
 
 # The registers that are shown, each with its part of a reply of `regs`.
 REGISTERS = {"PC": PC, "PS": PS, "KSP": KSP, "USP": USP}
-REGISTERS.update({f"R{it}": slice(10 * it + 3, 10 * it + 9) for it in range(6)})
+REGISTERS.update({f"R{number}": part for number, part in enumerate(GENERAL)})
 TRAPS = (0o4, 0o10, 0o14, 0o20, 0o30, 0o34, 0o250)
 NOTHING = "-"
 TIMESCALE = "1 s"  # the only unit of a dump that viewers turn into no other one

@@ -17,7 +17,8 @@ from .page_file import PageSession
 
 # Files of symbols, by the names from which the page tells the mode.
 SYMBOLS = {Mode.KERNEL: "kernel.sym", Mode.USER: "user.sym"}
-NAMED = "# name "  # begins a comment that says what the page calls a word
+# What begins the comments that say what the page calls a word, and what it tells of the session.
+TOLD = ("# name ", "# story ")
 
 Files = dict[str, bytes]
 
@@ -114,7 +115,7 @@ def last_shown(explorer: Explorer, given: Optional[int]) -> int:
 
 def session_of(explorer: Explorer, end: int) -> PageSession:
     """What explore has now, to be shown up to a turn: the past with its options and images, the
-    symbols, and what the session calls words. It has the lines that the page itself saves."""
+    symbols, and what the session calls words and tells of itself."""
     options = options_of(explorer.machine.start)
     check_files(options)
     words, files = packed_files(options)
@@ -123,7 +124,7 @@ def session_of(explorer: Explorer, end: int) -> PageSession:
         if symbols:
             put(files, mode.value, name, symbols)
     own = (it for it in lines_now(explorer.session) if len(it) <= sessions.LONGEST_LINE)
-    names = (it for it in own if it.startswith(NAMED))
-    lines = [*names, *past_lines(explorer.machine), f"regs {end}"]
+    told = (it for it in own if it.startswith(TOLD))
+    lines = [*told, *past_lines(explorer.machine), f"regs {end}"]
     name = explorer.session.name if explorer.session else ""
     return PageSession(as_text(name), words, lines, files)

@@ -6,11 +6,11 @@ the loader is to halt. Between blocks there is leader, bytes 000, which counts f
 from typing import Optional
 
 from ..core.errors import ExploreError
+from ..core.hardware import IO_PAGE_OF_PROGRAMS
 from ..core.kinds import LEADER
 from ..core.values import dataclass
 
 HEAD_BYTES = 6
-IO_PAGE = 0o160000
 
 
 @dataclass(frozen=True)
@@ -76,10 +76,10 @@ def tape_of(data: bytes) -> Tape:
         if not block.data:
             return Tape(blocks, loaded, block.address, block.end)
         last = block.address + len(block.data) - 1
-        if last >= IO_PAGE:
+        if last >= IO_PAGE_OF_PROGRAMS:
             raise ExploreError(
                 f"byte {at}: the block goes on to address {last:o}, and core that a loader can"
-                f" reach ends at {IO_PAGE - 1:o}"
+                f" reach ends at {IO_PAGE_OF_PROGRAMS - 1:o}"
             )
         loaded.update(enumerate(block.data, block.address))
         at = block.end

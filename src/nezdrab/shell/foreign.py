@@ -1,11 +1,11 @@
-"""Words of other debuggers and simulators, gdb, rr and SIMH, and what to type here."""
+"""Words of other debuggers and simulators, gdb, rr and SIMH, and the lines for them here."""
 import re
 
 from ..core.engine import LAST_TURN
 from ..core.symbols import ADDRESS
 
 DUMPED = "`dump A C` shows C words from A on, `dump A C instructions` as many instructions"
-INSTRUCTIONS = "`list A C` shows C instructions from A on, `list` alone those at PC"
+INSTRUCTIONS = "`list` shows the instructions at PC, `list A C` C instructions from A on"
 DISPLAYED = "`display list` shows the instructions at PC after each step"
 STEP = "`step` shows the turn after the current one, be it an instruction or an interrupt"
 BACK = "`back` shows the turn before the current one"
@@ -24,19 +24,20 @@ RUN = "each turn is there already: `show N`, `text N`; `until PC A` finds the tu
 KEPT = "no state has to be kept: `show N` shows any turn, and `save FILE` saves the past"
 RECORDED = "each turn is recorded: `back`, `reverse-over` and `reverse-continue` go back"
 SHELL = "no line runs a command of the shell; `log FILE` and `save FILE` write files for others"
-BOOT = "`console from 0` sits down at power-up; examples/boot-rk0.session has a bootstrap"
+BOOT = "at power-up one sits down by `console from 0`; examples/boot-rk0.session has a bootstrap"
 LINES = "`do FILE` does the lines of FILE, `define NAME LINE` makes a word of your own"
 ATTACH = "a disk is the option --disk FILE of explore; `import FILE` takes over commands of SIMH"
 VIEWERS = "`export FILE.vcd from N to M` writes turns for GTKWave, `help export` has other viewers"
 CALLER = f"{CALLS}; `reverse-finish` goes back to the call of the current routine"
 CONDITIONS = "`break A if R0 > 5` sets a breakpoint that holds under a condition"
-GONE = "`breakpoints` lists breakpoints, `delete N` takes one away, `delete` all"
+GONE = "breakpoint N goes by `delete N`, all by `delete`; `breakpoints` lists them"
 EXPECT = "`expect TEXT` goes on to where TEXT has been printed"
 ROUTINES = "`profile N M` shows in which routines the turns were"
 EVALUATE = "`list A 1` shows the word at A as an instruction"
 
 NAMING = ("watch", "rwatch", "display")  # a register is typed after these without $ too
-# Each sentence has lines to type, in `such quotes`. A command of explore comes before a word here.
+# Each sentence has lines of explore, in `such quotes`; with one that it begins with, the word does
+# that line. A command of explore comes before a word here.
 FOREIGN = {
     **dict.fromkeys(("b", "br"), BREAK),
     **dict.fromkeys(("tb", "tbreak"), f"{BREAK}; {STAYS}"),
@@ -61,7 +62,7 @@ FOREIGN = {
     **dict.fromkeys(("shell", "!"), SHELL),
     "record": RECORDED,
     "echo": "`# TEXT` is a comment in a script, and in the file of `log FILE`",
-    "apropos": "`help all` lists all commands and lines, `help WORD` says what one does",
+    "apropos": "all commands and lines are in `help all`, `help WORD` says what one does",
     "history": "`see N C` shows the C turns before turn N; nothing has to be switched on for it",
     **dict.fromkeys(("gprof", "perf"), ROUTINES),
     "gcov": "`covered FILE` shows a listing with how often each line ran",
@@ -86,6 +87,8 @@ FOREIGN = {
 EXAMINED = r"(?:x|p|print|e|ex|examine)/([0-9]{0,4})([a-z]{0,2})"
 FORMATS = {"i": "instructions", "b": "bytes", "c": "text", "d": "words", "u": "words"}
 OF_BYTES = ("bytes", "text")
+# What stands for a word that is still to be typed.
+PLACES = re.compile(r"(?<![^ ])(A|C|M|N|V|W|X|FILE|LINE|NAME|TEXT|WORD)(?![^ ])")
 VIRTUAL = "`dump user A C` takes an address of a program, as `dump kernel A C` does"
 
 
@@ -110,3 +113,11 @@ def sentence(word: str, rest: str = "") -> str:
     if word.isdigit() and int(word) <= LAST_TURN:
         return f"`show {word}` shows turn {word}, and makes it the current one"
     return examined(word, rest) or FOREIGN.get("!" if word[:1] == "!" else word.lower(), "")
+
+
+def line_of(said: str, rest: str = "") -> str:
+    """The line that a sentence begins with, or an empty text if it begins with none, or with one
+    that lacks a word which isn't typed."""
+    found = re.match("`([^`]+)`", said)
+    lacking = set(PLACES.findall(found[1])) - set(rest.split()) if found else set()
+    return found[1] if found and not lacking else ""

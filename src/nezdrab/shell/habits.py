@@ -1,5 +1,6 @@
-"""Lines of gdb and SIMH with their arguments: the line to type here, with these arguments. A word
-alone is answered by `foreign`. A line of explore that has its form stays what it is."""
+"""Lines of gdb and SIMH with their arguments: the line here, with these arguments, which is done if
+the sentence begins with it. A word alone is answered by `foreign`. A line of explore that has its
+form stays what it is."""
 import re
 from functools import partial
 from typing import Callable, Optional
@@ -23,7 +24,7 @@ NO_REGISTER = (
     "no line sets a register in a turn; `core A INSTRUCTION` patches the program, and"
     " `core A W` a word, from power-up on"
 )
-PARTS = "`show` has the registers, `calls` the calls, `breakpoints` the breakpoints"
+PARTS = "the registers are in `show`, the calls in `calls`, the breakpoints in `breakpoints`"
 SHOWN_OF_ROUTINE, SHOWN_OF_HISTORY = 16, 20
 
 
@@ -107,10 +108,17 @@ def stop(asker: Asker, rest: str, more: str = "") -> str:
 def watch(asker: Asker, rest: str, word: str) -> str:
     register, address = asker.register(rest), asker.address(rest)
     if register and register[0] == "PC":
-        return STEP
+        return f"PC gets another word in most turns: {STEP}"
     if register:
-        return f"`until {register[0]} != {register[1]:o}` finds when a register gets another word"
+        found = f"`until {register[0]} != {register[1]:o}`"
+        return f"a register gets another word in the turn that {found} finds"
     return f"`{word} {address}`, then `continue`{OCTAL}" if address else ""
+
+
+def accessed(asker: Asker, rest: str) -> str:
+    address = asker.address(rest)
+    both = f"`rwatch {address}`, `watch {address}`"
+    return f"reads and writes have a breakpoint each: {both}" if address else ""
 
 
 def until(asker: Asker, rest: str) -> str:
@@ -125,6 +133,20 @@ def steps(asker: Asker, rest: str) -> str:
 def go(asker: Asker, rest: str) -> str:
     address = asker.address(rest)
     return f"`until PC {address}` finds the turn that comes there" if address else ""
+
+
+def gone_on(asker: Asker, rest: str) -> str:
+    """`jump A`, `run A`: nothing runs here that hasn't run."""
+    found = go(asker, rest)
+    return f"each turn is there already: {found}" if found else ""
+
+
+def printed(asker: Asker, rest: str) -> str:
+    """`p $r0`, `p COUNT`, `p *0x200`: the value of a register, or the word at an address. Other
+    expressions aren't worked out."""
+    is_word = rest.startswith("*") and re.fullmatch(r"\*(\$\w+|0x\w+|[0-7]+)", rest)
+    is_name = re.fullmatch(r"[$A-Za-z_.]\w*", rest) is not None
+    return examined(asker, rest) if is_word or is_name else ""
 
 
 def disassembled(asker: Asker, rest: str) -> str:
@@ -170,7 +192,7 @@ def deposited(asker: Asker, rest: str) -> str:
     place, word = place.split("}")[-1], word.strip()
     register = asker.register(place)
     if register and register[0] == "PC" and word:
-        return f"{go(asker, word) or NO_REGISTER}; the start is the option --start of explore"
+        return f"the start is the option --start of explore; {go(asker, word) or NO_REGISTER}"
     if register and word:
         return NO_REGISTER
     if place.upper() in (*OF_CONSOLE, *OF_CONSOLE.values()) and re.fullmatch("[0-7]{1,6}", word):
@@ -267,16 +289,18 @@ HABITS: dict[str, Callable[[Asker, str], str]] = {
     **dict.fromkeys(("tb", "tbreak"), partial(stop, more=f"; {STAYS}")),
     "until": until,
     **dict.fromkeys(("s", "si", "step", "stepi"), steps),
-    **dict.fromkeys(("g", "go", "ru", "j", "jump", "u", "advance"), go),
+    **dict.fromkeys(("g", "go", "u", "advance"), go),
+    **dict.fromkeys(("ru", "j", "jump"), gone_on),
     **dict.fromkeys(("disas", "disassemble", "l"), disassembled),
-    **dict.fromkeys(("p", "print", "e", "ex", "exam", "examine", "output"), examined),
+    **dict.fromkeys(("p", "print", "output"), printed),
+    **dict.fromkeys(("e", "ex", "exam", "examine"), examined),
     **dict.fromkeys(("dep", "deposit"), deposited),
     **{"d": deposited_or_gone, "delete": delete, "set": set_up},
     "history": lambda asker, rest: past(asker, rest) if rest else "",
     **{"show": shown, "sh": told, "info": told, "i": told},
     **{"exp": of_text("expect"), "send": of_text("type"), "next": said(OVER), "where": said(CALLS)},
     **{"watch": partial(watch, word="watch"), "rwatch": partial(watch, word="rwatch")},
-    **{"awatch": partial(watch, word="rwatch"), "display": displayed, "goto": gone_to},
+    **{"awatch": accessed, "display": displayed, "goto": gone_to},
 }
 
 
@@ -298,6 +322,9 @@ def names_register(explorer: Explorer, word: str, rest: str) -> bool:
     found = [it for it in rest.split() if REGISTER.fullmatch(it)]
     named = [it for it in found if it.startswith("$") or word in NAMING and it == rest]
     return any(not Asker(explorer).is_known(it) for it in named)
+
+
+VALUE = re.compile(r"[A-Z]\w* is [0-7]{6} before turn ")
 
 
 def led_on(explorer: Explorer, word: str, rest: str) -> str:

@@ -5,13 +5,14 @@ from typing import Optional
 from ..analysis.command import check_turn
 from ..analysis.explorer import Explorer
 from ..core.errors import ExploreError
+from ..core.hardware import IO_PAGE, IO_PAGE_OF_PROGRAMS, NAMES_IN_THE_IO_PAGE
 from ..core.options import UNIT_BYTES
 from ..core.replies import Mode
 from ..core.symbols import ADDRESS
 
 MAPPED_WORDS = ("last", "writes", "next", "changes", "first", "watch", "why", "reads", "rwatch")
 MAPPED_HELP = (
-    "In `last N A`, `writes N M A`, `next A`, `changes A`, `reads A`, `first core A = W`, "
+    "In `last N A`, `writes [N M] A`, `next A`, `changes A`, `reads A`, `first core A = W`, "
     "`watch A`, `rwatch A` and `why A`, A may be `kernel A` or `user A`, an address as a program "
     "of that mode has it. It stands for the address of core that a read before turn N comes to; "
     "without N it is the turn of `from`, in `why` that of `at`, or the current turn. In other "
@@ -20,12 +21,12 @@ MAPPED_HELP = (
 )
 WORD_LINE = (
     r"(?P<before>((?P<bare>mem[ \t]+[0-9]{1,10}|reads([ \t]+[0-9]{1,10}){2}|(un)?core|list|dump)"
-    r"|last[ \t]+(?P<last>[0-9]{1,10})|writes[ \t]+(?P<writes>[0-9]{1,10})[ \t]+[0-9]{1,10}"
+    r"|last[ \t]+(?P<last>[0-9]{1,10})|writes([ \t]+(?P<writes>[0-9]{1,10})[ \t]+[0-9]{1,10})?"
     r"|next|changes|watch|reads|rwatch|(?P<why>why)([ \t]+core)?|first[ \t]+core)[ \t]+)"
     r"((?P<mode>kernel|user)[ \t]+(?!(from|to)[ \t]))?"
     rf"(?P<address>{ADDRESS})(?P<after>(?![^\s=]).*)"
 )
-FIRST_OF_IO, LARGEST = 0o160000, 0o177777
+LARGEST = 0o177777
 
 
 def turn_of(explorer: Explorer, found: "re.Match[str]") -> int:
@@ -67,12 +68,9 @@ def beside_register(explorer: Explorer, text: str) -> str:
     except ExploreError:
         return ""
     machine, turn = explorer.machine, explorer.turn
-    is_near = FIRST_OF_IO <= address <= LARGEST
+    is_near = IO_PAGE_OF_PROGRAMS <= address <= LARGEST
     if not is_near or address >= machine.setup.units * UNIT_BYTES:
         return ""
-    from ..analysis.listing import IO_PAGE  # which few lines need
-    from ..analysis.operand_values import NAMES_IN_THE_IO_PAGE
-
     modes = machine.registers(turn).mode, Mode.KERNEL
     places = machine.places([(turn, it, address & ~1) for it in modes])
     for mode, place in zip(modes, places):

@@ -22,7 +22,7 @@ from .commands import COMMANDS, ENDS
 from .completion import HELP, completions
 from .defining import definition_line
 from .display import displays_after_move
-from .foreign import NAMING, sentence
+from .foreign import NAMING, line_of, sentence
 from .journal import state_folder
 from .mapped import MAPPED_HELP, MAPPED_WORDS, in_core
 from .output import LINES, Unwritable, fault_in_words, flush, put
@@ -50,6 +50,9 @@ FADES_HELP = (
 WRITING = {"save", "page", "export", "sweep", "core", "disk", "covered", "log", "matters", "why"}
 # The replies of these lines of the language begin with the turn that they have found.
 FINDING = ("last", "first", "latest", "change", "when", "fades")
+# The commands that an empty line does again.
+STEPS = {"step", "back", "reverse-continue", "reverse-over", "reverse-finish"}
+STEPS |= {"continue", "over", "finish"}
 CONDITION_HELP = f"A CONDITION is {sessions.CONDITIONS}"
 NUMBERS = (
     "A, X, I, J, D, V, W, B and a mask K are octal, N, M, T, C, E, F and other K decimal. A and X "
@@ -62,7 +65,9 @@ CURRENT_TURN = (
     " calls, dump, screen, why) last, also by a line with reverse-, or where you left the "
     "console. The lines that show begin there if they name no turn, and so do `expect` and, if no "
     "event lies behind it, `type`; `until`, `next` and `continue` begin after it. Other lines, "
-    "edits too, leave it as it is. The prompt at a terminal names it, if it isn't turn 0."
+    "edits too, leave it as it is. The prompt at a terminal names it, if it isn't turn 0. An empty "
+    "line there does the line right before it again, if that was step, back, over, finish, continue"
+    " or one of these with reverse-."
 )
 # Topics of help that are rules: a title, and the rules.
 RULES = {
@@ -91,7 +96,8 @@ class Prompt(Interpreter):
     def __init__(self, explorer: Explorer, echo: bool = False):
         explorer.interpreter = self
         self.completions: list[str] = []
-        self.told_fault = ""
+        self.told_fault = self.done = ""  # the command that was done last
+        self.repeated = ""  # the line that an empty one does again
         self.explorer = explorer
         self.echo = echo
         self.is_stopped = self.is_paged = False
@@ -155,6 +161,7 @@ class Prompt(Interpreter):
         before its replies. After Ctrl-C and after `quit` the others aren't done. Tells whether one
         was the last."""
         is_last = self.is_stopped = False
+        self.repeated = ""
         for line in lines:
             if not is_last and not self.is_stopped and line.strip(BLANKS):
                 put(f"{self.explorer.prompt}{line}")
@@ -163,8 +170,8 @@ class Prompt(Interpreter):
 
     def at_terminal(self, typed: str) -> bool:
         """Does what was typed, a line or a paste, and what is typed to the pages of help; tells
-        whether a line was the last one."""
-        is_last, self.pager.line = False, typed
+        whether a line was the last one. An empty line does again the step right before it."""
+        is_last, self.pager.line = False, typed if typed.strip(BLANKS) else self.repeated
         while self.pager.line and not is_last:
             typed, self.pager.line = self.pager.line, ""
             lines = typed.replace("\r\n", "\n").split("\n")
@@ -173,10 +180,12 @@ class Prompt(Interpreter):
 
     def alone(self, line: str) -> bool:
         """Does a line that was typed alone. Its help has pages."""
+        self.done = ""
         LINES.note(f"{self.explorer.prompt}{line}")
         self.is_paged = True
         is_last = self.onecmd(line)
         self.is_paged = False
+        self.repeated = line if self.done in STEPS else ""
         return is_last
 
     def fault(self, error: Exception) -> str:
@@ -241,7 +250,9 @@ class Prompt(Interpreter):
     def lines_and_displays(self, line: str) -> Iterator[str]:
         """What a line shows, and what is displayed then."""
         yield from self.lines(line)
+        done = self.done
         yield from displays_after_move(self.explorer)
+        self.done = done
 
     def lines(self, line: str) -> Iterator[str]:
         line = self.explorer.definitions.expanded(line, str(self.explorer.turn))
@@ -255,30 +266,41 @@ class Prompt(Interpreter):
             return
         if word.rstrip("!") in ENDS:
             raise Ended(is_dropped=word[-1] == "!")
-        self.lead_on(word, rest)
-        if word in HELP:
+        led = self.led_on(word, rest)
+        if led:
+            yield from self.lines_of_other(led, rest)
+        elif word in HELP:
             yield from self.help_lines(rest)
         elif is_own(word, rest) or self.is_instruction(word, rest):
-            name = word.rstrip("!")
+            self.done = name = word.rstrip("!")
             OUTPUT.way, OUTPUT.overwrites = f"{name}!", word != name
             yield from COMMANDS[name].lines(self.explorer, rest)
         elif not is_of_language(word) and sentence(word, rest):
-            raise ExploreError(sentence(word, rest))
+            yield from self.lines_of_other(sentence(word, rest), rest, not rest or "/" in word)
         else:
             yield from self.pass_on(line)
 
-    def lead_on(self, word: str, rest: str) -> None:
-        """An error that names a line, if this one has the form of gdb or SIMH, and none here."""
+    def lines_of_other(self, said: str, rest: str, is_done: bool = True) -> Iterator[str]:
+        """What a line of gdb or SIMH shows: the sentence about it, and what the line that this
+        begins with shows. An error if there is none."""
+        from .habits import VALUE
+
+        line = line_of(said, rest) if is_done else ""
+        if not line and not VALUE.match(said):
+            raise ExploreError(said)
+        yield said
+        yield from self.lines(line)
+
+    def led_on(self, word: str, rest: str) -> str:
+        """The sentence about a line that has the form of gdb or SIMH, and none here."""
         form = COMMANDS[word.rstrip("!")].pattern if is_own(word, rest) else None
         has_form = form is not None and form.fullmatch(rest.strip(BLANKS)) is not None
         if is_of_language(word) or has_form and "$" not in rest and word not in NAMING:
-            return
+            return ""
         from .habits import led_on, names_register  # which few lines need
 
         is_ours = has_form and not names_register(self.explorer, word, rest)
-        led = "" if is_ours else led_on(self.explorer, word, rest)
-        if led:
-            raise ExploreError(led)
+        return "" if is_ours else led_on(self.explorer, word, rest)
 
     def is_instruction(self, word: str, rest: str) -> bool:
         if word != "core":
@@ -369,11 +391,11 @@ def is_of_language(word: str) -> bool:
 
 def is_own(word: str, rest: str) -> bool:
     """Whether a line is a command of explore. A line of the language may begin with its word: the
-    search `reads` has two turns there, and the command one address. The command `accesses` has the
-    words of the line, and shows more."""
+    searches `reads` and `writes` have two turns there, and the commands an address. The command
+    `accesses` has the words of the line, and shows more."""
     if word == "accesses":
         return True
-    turns = 2 if word == "reads" else 1
+    turns = 2 if word in ("reads", "writes") else 1
     if word in SEARCHES and all(is_decimal(it[:1]) for it in [*rest.split(), ""][:turns]):
         return False
     if word in FORMS:
@@ -419,6 +441,7 @@ def read_at_terminal(prompt: Prompt) -> None:
             is_last = prompt.end()
         except KeyboardInterrupt:
             put("^C")
+            prompt.repeated = ""
         else:
             is_last = prompt.at_terminal(typed)
     write_history(path)

@@ -27,20 +27,20 @@ TOPICS = {
     ),
     ASKING: Topic(
         "what a turn did, what the machine was",
-        ("show", "see", "accesses", "calls", "screen", "events", "compare", "follow", "lost")
-        + ("why", "profile"),
+        ("show", "see", "accesses", "branches", "calls", "screen", "events", "compare", "follow")
+        + ("lost", "why", "profile", "extremes"),
         "Lines of the session language ask too: regs, mem, dsk, text, last, trail, devices, pages. "
         "See help session.",
     ),
     "data": Topic(
         "words and instructions",
-        ("dump", "list", "diff", "changes", "reads"),
-        "Lines for it are mem, dsk, last, writes, find, translate and others: see help session and "
+        ("dump", "list", "diff", "changes", "writes", "reads"),
+        "Lines for it are mem, dsk, last, find, translate and others: see help session and "
         "help searches.",
     ),
     "causes": Topic(
         "what a value is made of, what became of an event, which events matter",
-        ("why", "follow", "lost", "changes", "reads", "accesses", "matters"),
+        ("why", "follow", "lost", "changes", "reads", "accesses", "matters", "reduce"),
     ),
     "edits": Topic(
         "other programs, keys and events, and back",
@@ -63,7 +63,7 @@ TOPICS = {
         ("load", "import", "symbols", "names", "save", "export", "core", "disk", "page", "log")
         + ("sweep", "do", "covered"),
     ),
-    "trying": Topic("an event at many turns, two pasts", ("sweep", "matters", "compare")),
+    "trying": Topic("an event at many turns, two pasts", ("sweep", "matters", "reduce", "compare")),
 }
 SHOWING = ("moving", ASKING, "data")
 NAMED = {word for topic in TOPICS.values() for word in topic.words}

@@ -1,0 +1,108 @@
+"""What a machine tries in other pasts, while its own stays as it is."""
+from __future__ import annotations
+
+import operator
+from contextlib import closing
+from typing import Any, Callable, Iterable, Iterator, Optional, SupportsIndex
+from typing import TypeVar, Union, overload
+
+from . import questions
+from .all_words import words_apart
+from .asked import sparse_stride, turns_of_question
+from .engine import LAST_TURN, Machine as Engine
+from .errors import ExploreError
+from .past import Event
+from .questions import Address, Question
+from .replies import Mode
+
+Answer = TypeVar("Answer")
+
+
+class Trials:
+    """The part of a machine that tries other pasts, each in a process of its own."""
+
+    _engine: Engine
+
+    def _number(self, address: Address, mode: Optional[Mode] = None) -> int:
+        raise NotImplementedError
+
+    @overload
+    def sweep(
+        self,
+        event: Union[SupportsIndex, str],
+        turns: Iterable[SupportsIndex],
+        question: str,
+        *,
+        processes: int = 1,
+    ) -> Iterator[tuple[int, str]]:
+        ...
+
+    @overload
+    def sweep(
+        self,
+        event: Union[SupportsIndex, str],
+        turns: Iterable[SupportsIndex],
+        question: Question[Answer],
+        *,
+        processes: int = 1,
+    ) -> Iterator[tuple[int, Answer]]:
+        ...
+
+    def sweep(
+        self,
+        event: Union[SupportsIndex, str],
+        turns: Iterable[SupportsIndex],
+        question: Union[str, Question[Any]],
+        *,
+        processes: int = 1,
+    ) -> Iterator[tuple[int, Any]]:
+        """Each of the turns with the answer to the question if the event were there: a new event,
+        such as "tick", or the one with this number, moved. The past stays as it is. Turns are taken
+        as answers are: both may go on for ever."""
+        from .sweeping import Sweep  # which few need
+
+        asked = questions.question_of(question)
+        swept = Sweep.of(self._engine, event, asked.lines(self._number))
+        yield from swept.answers(turns, asked.read, processes)
+
+    def differing(
+        self, other: Trials, turn: SupportsIndex
+    ) -> Iterator[tuple[Optional[int], int, int, int]]:
+        """The words before a turn that another machine has otherwise: None and the address of core,
+        or the drive and the number there; this machine's word, and the other's. Of drives 1 to 7
+        none is looked at unless both machines have them."""
+        for drive, words in words_apart(self._engine, other._engine, operator.index(turn)):
+            for place, ours, theirs in words:
+                yield drive, 2 * place if drive is None else place, ours, theirs
+
+    def reduce(
+        self,
+        question: Union[str, Question[Any]],
+        is_wanted: Optional[Callable[[Any], bool]] = None,
+        *,
+        events: Optional[Iterable[SupportsIndex]] = None,
+    ) -> Iterator[list[Event]]:
+        """Ever fewer events, at first all, with which the answer to the question is what it is, or
+        `is_wanted`. Of the last of these lists no single event can be left out; fewer others might
+        do, which no try has met. `events` are the numbers of those that may be left out, if not all
+        may. The past stays as it is. A NezdrabError if the answer isn't wanted at first."""
+        from .reducing import Reduction  # which few need
+        from .sweeping import replies_to
+
+        asked, engine = questions.question_of(question), self._engine
+        lines = list(asked.lines(self._number))
+        present = asked.read(replies_to(engine, lines))
+        wanted = is_wanted or (lambda answer: bool(answer == present))
+        if not wanted(present):
+            raise ExploreError("the answer isn't wanted with all events")
+        named = None if events is None else frozenset(map(operator.index, events))
+        kept = [it for it in engine.script if named is None or it.number in named]
+        end = max((it[1] for line in lines if (it := turns_of_question(line))), default=0)
+        with closing(engine.twin(stride=sparse_stride(end))) as twin:
+            kept = [it for it in kept if it.turn < LAST_TURN]
+            reduction = Reduction(twin, lines, lambda it: bool(wanted(asked.read(it))), kept)
+            yield kept
+            for _ in reduction.steps():
+                if len(reduction.kept) < len(kept):
+                    kept = reduction.kept
+                    yield kept
