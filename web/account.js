@@ -2,14 +2,13 @@
 // part with the most behind it goes on at the same indent. The lines are those of
 // src/nezdrab/analysis/account.py.
 
-import {
-  REST, bitOfCode, isCode, isCore, isOfDrive, isRegister, nameOfCell, wordOf, wordOfDrive,
-} from "./cells.js";
-import { SPACES, rowOfReply } from "./facts.js";
+import { isCore, isOfDrive, wordOfDrive } from "./cells.js";
+import { SPACES } from "./facts.js";
 import { optionOfDrive } from "./options.js";
 import { Kind, MOST_LOOKS, MOST_TURNS_BACK, isWrite } from "./origins.js";
 import { eventInWords } from "./past.js";
-import { octal, wordsOf } from "./replies.js";
+import { octal } from "./replies.js";
+import { Values } from "./values.js";
 
 const [MOST_LINES, MOST_LEVELS, MOST_NAMES] = [100, 30, 6];
 // Steps of one input each: from so many on they are one line; so many of them are looked at.
@@ -40,14 +39,14 @@ const OTHER_ENDS = {
  * @typedef {(turns: number[]) => Promise<string[]>} TurnsInWords
  */
 
-export class Account {
+export class Account extends Values {
   /**
    * `turnsInWords` says what turns did; `options` are the words of the session's options.
    * @param {{facts: import("./facts.js").Facts, steps: import("./origin-steps.js").OriginSteps,
    *   turnsInWords: TurnsInWords, options: string[]}} about
    */
   constructor({ facts, steps, turnsInWords, options }) {
-    this.facts = facts;
+    super(facts);
     this.steps = steps;
     this.turnsInWords = turnsInWords;
     this.options = options;
@@ -57,40 +56,7 @@ export class Account {
     this.shown = new Set();
     /** @type {Map<number, string>} */
     this.texts = new Map();
-    /** @type {Map<string, string>} the replies to the questions of values */
-    this.replies = new Map();
-    /** @type {Set<string>} the questions of values whose replies aren't there yet */
-    this.unknown = new Set();
     this.isCut = false;
-  }
-
-  // Names and values
-
-  /** @param {number} cell */
-  name(cell) {
-    return nameOfCell(cell, this.facts.past.version === 2);
-  }
-
-  /** The value of the word of a cell before a turn; an empty text if no question tells it.
-      @param {number} cell @param {number} turn */
-  value(cell, turn) {
-    const isWord = isCore(cell) || isOfDrive(cell);
-    if (!isWord && !isRegister(cell) && !isCode(cell)) return "";
-    const line = isWord ? this.facts.lineOfWord(turn, wordOf(cell)) : `regs ${turn}`;
-    const reply = this.replies.get(line);
-    if (reply === undefined) {
-      this.unknown.add(line);
-      return "";
-    }
-    if (isWord) return octal(wordsOf(reply)[0]);
-    const { words, ps } = rowOfReply(reply);
-    if (isRegister(cell)) return octal(words[cell >> 1 & 7]);
-    return cell < REST ? String(ps >> bitOfCode(cell) & 1) : octal(ps);
-  }
-
-  /** @param {number} cell @param {number} turn */
-  named(cell, turn) {
-    return `${this.name(cell)} ${this.value(cell, turn)}`.trimEnd();
   }
 
   /** @param {Step[]} copies */
@@ -159,23 +125,6 @@ export class Account {
     const turns = [...new Set(made.map(it => it.turn))].sort((a, b) => a - b);
     const texts = await this.turnsInWords(turns);
     turns.forEach((turn, at) => this.texts.set(turn, texts[at]));
-  }
-
-  /** Asks for the values that aren't known. */
-  async learnValues() {
-    const lines = [...this.unknown].sort((a, b) => turnOfLine(a) - turnOfLine(b));
-    const replies = await this.facts.ask(lines);
-    lines.forEach((it, at) => this.replies.set(it, replies[at]));
-    this.unknown.clear();
-  }
-
-  /** What comes of a telling, after all values that it tells were asked for together: it is told
-      once to learn which they are.
-      @template Told @param {() => Told} tell @returns {Promise<Told>} */
-  async known(tell) {
-    tell();
-    await this.learnValues();
-    return tell();
   }
 
   // The tree
@@ -309,7 +258,3 @@ export class Account {
     @param {string} text */
 const operationIn = text =>
   text.split(/ +/).slice(2).find(it => !it.startsWith("(")) ?? text;
-
-/** The turn that a question names.
-    @param {string} line */
-const turnOfLine = line => Number(line.split(" ")[1]);

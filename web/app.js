@@ -12,18 +12,20 @@ import { EventList } from "./events.js";
 import { Examples } from "./examples.js";
 import { Finder } from "./find.js";
 import { FrontPanel } from "./front-panel.js";
-import { Happened } from "./happened.js";
 import { Inspect } from "./inspect.js";
 import { Linking } from "./linking.js";
+import { Notes } from "./notes.js";
 import { Opening } from "./opening.js";
-import { Outcome } from "./outcome.js";
 import { NamedPasts } from "./pasts.js";
 import { Pictures } from "./pictures.js";
+import { Play } from "./play.js";
 import { Reasons } from "./reasons.js";
 import { Stepping } from "./stepping.js";
+import { StoryPanel } from "./story.js";
 import { Sweep } from "./sweep.js";
 import { Tasks } from "./tasks.js";
 import { ConsoleText } from "./text.js";
+import { TurnPanel } from "./turn.js";
 import { PageView } from "./view.js";
 import { Watched } from "./watched.js";
 import { WorkBar } from "./work.js";
@@ -36,8 +38,11 @@ import { WorkBar } from "./work.js";
  * - `cursorMoved`: the cursor is before another turn, or memory is shown from another address;
  * - `tabOpened`: another tab is open, and what it has is seen;
  * - `stopped`: the user has stopped the machine's work.
+ * One that has `look` is told by that of the past, the cursor or the tab, if it has no method of
+ * its own for it: it shows what is seen now.
  * @typedef {{sessionEnds?: () => void, sessionBegins?: () => void, pastChanged?: () => void,
- *   cursorMoved?: () => void, tabOpened?: () => void, stopped?: () => void}} Part
+ *   cursorMoved?: () => void, tabOpened?: () => void, stopped?: () => void,
+ *   look?: () => void}} Part
  * @typedef {import("./opened.js").OpenSession} OpenSession
  */
 
@@ -53,16 +58,18 @@ export class App {
     this.view = new PageView(this);
     this.panels = new CursorPanels(this);
     this.watched = new Watched(this);
+    this.turn = new TurnPanel(this);
     this.pictures = new Pictures(this);
     this.pasts = new NamedPasts(this);
     this.text = new ConsoleText(this);
     this.console = new Console(this);
     this.events = new EventList(this);
     this.sweep = new Sweep(this);
-    this.outcome = new Outcome(this);
-    this.happened = new Happened(this);
+    this.story = new StoryPanel(this);
+    this.notes = new Notes(this);
     this.finder = new Finder(this);
     this.stepping = new Stepping(this);
+    this.play = new Play(this);
     this.inspect = new Inspect(this);
     this.reasons = new Reasons(this);
     this.chosenByte = new ChosenByte(this);
@@ -73,10 +80,10 @@ export class App {
     this.linking = new Linking(this);
     /** @type {Part[]} in the order in which they are told: what is asked first is shown first */
     this.parts = [
-      this.view, this.outcome, this.watched, this.edits, this.events, this.sweep, this.console,
-      this.pictures, this.text, this.chosenByte, this.panels, this.inspect, this.reasons,
-      this.calls, this.happened, this.pasts, this.linking, this.front,
-      this.drives,
+      this.view, this.story, this.watched, this.edits, this.events, this.sweep, this.console,
+      this.pictures, this.text, this.chosenByte, this.panels, this.turn, this.inspect,
+      this.reasons, this.calls, this.notes, this.pasts, this.linking, this.front,
+      this.drives, this.play,
     ];
   }
 
@@ -95,7 +102,11 @@ export class App {
       @param {keyof Part} what */
   tell(what) {
     if (!this.opened) return;
-    for (const it of this.parts) it[what]?.();
+    const isLook = ["pastChanged", "cursorMoved", "tabOpened"].includes(what);
+    for (const it of this.parts) {
+      if (it[what] || !isLook) it[what]?.();
+      else it.look?.();
+    }
   }
 
   /** Takes another session in the place of the one that is open.

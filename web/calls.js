@@ -21,22 +21,10 @@ export class Calls {
     this.panel = /** @type {HTMLDetailsElement} */ (element("calls"));
     /** @type {import("./cursor.js").State | undefined} */
     this.shown = undefined;
-    this.panel.addEventListener("toggle", () => this.ask());
+    this.panel.addEventListener("toggle", () => this.look());
   }
 
-  pastChanged() {
-    this.ask();
-  }
-
-  cursorMoved() {
-    this.ask();
-  }
-
-  tabOpened() {
-    this.ask();
-  }
-
-  ask() {
+  look() {
     const { app } = this;
     if (!this.panel.open || !app.isOpen || !app.dock.isSeen("machine")) return;
     app.attempt(() => this.show());

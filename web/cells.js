@@ -41,7 +41,9 @@ const MAPPING = [0o772300, 0o777600, 0o772340, 0o777640]
 export const KEPT_ON_THE_BUS = new Set([...OUTPUTS, ...OF_THE_DISK, ...MAPPING]);
 const NAMES_ON_THE_BUS = new Map([
   [TPB, "TPB"], [PPB, "PPB"], [TKB, "TKB"], [SWITCHES, "switches"], [PRB, "PRB"],
-  [0o777404, "RKCS"], [0o777406, "RKWC"], [0o777410, "RKBA"], [0o777412, "RKDA"],
+  [0o777560, "TKS"], [0o777564, "TPS"], [0o777550, "PRS"], [0o777554, "PPS"], [0o777546, "LKS"],
+  [0o777400, "RKDS"], [0o777402, "RKER"], [0o777404, "RKCS"], [0o777406, "RKWC"],
+  [0o777410, "RKBA"], [0o777412, "RKDA"], [0o777572, "SR0"], [0o777576, "SR2"], [PS, "PS"],
 ]);
 
 /** The low and the high byte of a register.

@@ -9,7 +9,7 @@ import { Priority } from "./run.js";
 import { Screen } from "./screen.js";
 
 // About what a PDP-11/40 does in a second.
-const TURNS_A_SECOND = 350_000;
+const TURNS_A_SECOND = 250_000;
 const [TICK, MOST_TURNS, MOST_BYTES] = [50, 4_000_000, 20_000];
 const KEYS = new Map(
   [["Enter", 0o15], ["Backspace", 0o177], ["Delete", 0o177], ["Escape", 0o33]]);
@@ -30,7 +30,6 @@ export function byteOfKey(event) {
  * A time of running: the turn up to which it is, whether the line that is typed goes on, and what
  * gives it up.
  * @typedef {{turn: number, isInLine: boolean, token: import("./tasks.js").Token}} Running
- * @typedef {import("./run.js").Run} Run
  */
 
 export class Console {
@@ -46,8 +45,6 @@ export class Console {
     this.keys = [];
     /** @type {Running | null} what tells one time of running from the next, if it runs */
     this.running = null;
-    /** @type {{run: Run | null, pasts: number}} the past whose text is shown */
-    this.isOf = { run: null, pasts: 0 };
     /** How many turns are run before the next look. */
     this.step = 0;
     /** How many bytes were printed, and the last of them. */
@@ -103,16 +100,33 @@ export class Console {
     if (left) app.say(`Left out, since the keyboard wasn't ready: ${counted(left, "key")}.`);
   }
 
-  keepPast() {
-    const { run } = this.app.session;
-    this.isOf = { run, pasts: run.ledger.pasts };
+  /** Shows what was printed before the cursor's turn, if the terminal is seen and doesn't run. */
+  look() {
+    const { app } = this, { run } = app.session, { cursor } = app.view.timeline;
+    const token = app.token("terminal");
+    if (this.running || !app.dock.isSeen("console")) return;
+    app.attempt(async () => {
+      const [text, registers] = await run.ask([`text ${cursor}`, `regs ${cursor}`],
+        Priority.QUESTION, token);
+      if (this.running) return;
+      this.take(text);
+      this.show(cursor, registersOf(registers).state);
+    });
   }
 
-  /** A text of another past isn't shown any longer. */
-  pastChanged() {
-    const { run } = this.app.session, { isOf } = this;
-    if (this.running || isOf.run === run && isOf.pasts === run.ledger.pasts) return;
-    for (const it of [this.pane, this.status]) it.textContent = "";
+  /** The terminal is brought into sight, and the keys are its own. */
+  sit() {
+    this.app.dock.bring("console-panel");
+    this.pane.focus({ preventScroll: true });
+    element("dock").scrollTop = 0;
+    element("dock").scrollIntoView({ block: "end" });
+    this.pane.scrollIntoView({ block: "nearest" });
+  }
+
+  /** @param {string} reply of `text` */
+  take(reply) {
+    this.bytes = [...tailOf(reply, MOST_BYTES).bytes];
+    this.printed = lengthOf(reply);
   }
 
   /** Runs on until it is ended.
@@ -120,8 +134,7 @@ export class Console {
   async runOn(running) {
     this.step = TURNS_A_SECOND * TICK / 1000;
     const [reply] = await this.ask(running, `text ${running.turn}`);
-    this.bytes = [...tailOf(reply, MOST_BYTES).bytes];
-    this.printed = lengthOf(reply);
+    this.take(reply);
     this.show(running.turn, "run");
     let hasKeys = false;
     try {
@@ -156,7 +169,6 @@ export class Console {
     running.isInLine = byte !== KEYS.get("Enter");
     this.tellKey();
     app.say(`${line}: ${reply}`);
-    this.keepPast();
     return true;
   }
 
@@ -165,10 +177,11 @@ export class Console {
     const { app } = this;
     for (const it of [app.edits, app.events, app.sweep, app.linking]) it.pastChanged();
     app.text.isOld();
-    app.happened.show([]);
+    app.story.isOld();
+    app.notes.pastChanged();
     app.pasts.differences.showLater();
     app.pictures.say("The lanes are those before the keys that you typed.");
-    for (const kind of ["happened", "comparison", "picture"]) app.token(kind);
+    for (const kind of ["story", "comparison", "picture"]) app.token(kind);
   }
 
   /** @param {Running} running */
@@ -200,7 +213,6 @@ export class Console {
   show(turn, state, isNew = true) {
     const cut = this.printed > this.bytes.length ? `, the last ${this.bytes.length} bytes` : "";
     this.status.textContent = `before turn ${turn}, ${state}${cut}`;
-    this.keepPast();
     if (isNew) this.showText();
   }
 

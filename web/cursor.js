@@ -63,18 +63,10 @@ export class CursorPanels {
     this.symbols = { kernel: [], user: [] };
   }
 
-  pastChanged() {
-    this.ask();
-  }
-
-  cursorMoved() {
-    this.ask();
-  }
-
   /** What is seen now is asked, unless it is of this turn and past already. */
   tabOpened() {
     const { run } = this.app.session, now = stateOf(run, this.app.view.timeline.cursor);
-    if (this.seen().some(it => !isSame(this.shown.get(it), now))) this.ask();
+    if (this.seen().some(it => !isSame(this.shown.get(it), now))) this.look();
   }
 
   /** The panels in the tab that is open. */
@@ -83,7 +75,7 @@ export class CursorPanels {
   }
 
   /** Asks for the machine before the turn of the cursor, and shows it. */
-  ask() {
+  look() {
     const { app } = this, { run, symbols } = app.session, token = app.token("cursor");
     app.attempt(() => this.show(run, app.view.timeline.cursor, symbols, token));
   }
@@ -399,13 +391,13 @@ export const stateOf = (run, turn) => ({ run, turn, pasts: run.ledger.pasts });
 
 /** Whether a panel shows a state.
     @param {Shown | null | undefined} shown @param {State | null} wanted */
-const isSame = (shown, wanted) => shown?.run === wanted?.run && shown?.turn === wanted?.turn
+export const isSame = (shown, wanted) => shown?.run === wanted?.run && shown?.turn === wanted?.turn
   && shown?.pasts === wanted?.pasts;
 
 /** Says of which turn a panel is: `wanted` is the state that is asked for, `shown` what it has.
     @param {HTMLElement} place @param {Shown | null | undefined} shown
     @param {State | null} wanted */
-export function markTurn(place, shown, wanted) {
+export function markTurn(place, shown, wanted, where = "before turn") {
   const isNow = shown?.run === wanted?.run && shown?.pasts === wanted?.pasts;
   const isStale = !isNow || shown?.turn !== wanted?.turn;
   place.classList.toggle("stale", isStale);
@@ -414,7 +406,7 @@ export function markTurn(place, shown, wanted) {
   else {
     const past = isNow ? "" : ", from before the last edit";
     const still = isStale ? "still " : "";
-    place.textContent = `${still}before turn ${shown.turn}${shown.more ?? ""}${past}`;
+    place.textContent = `${still}${where} ${shown.turn}${shown.more ?? ""}${past}`;
   }
 }
 

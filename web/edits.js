@@ -132,8 +132,9 @@ export class Edits {
     const { app } = this, { run, end } = app.session, wanted = { line: moveOf(event, turn), turn };
     app.say(wanted.line);
     app.text.isOld();
+    app.story.isOld();
     if (!run.isNear(end, Math.min(event.turn, turn))) return;
-    for (const kind of ["picture", "cursor", "comparison", "text"]) app.token(kind);
+    for (const kind of ["picture", "cursor", "comparison", "text", "story"]) app.token(kind);
     /** @type {Moves} */
     const moves = this.moves ?? { isAtWork: false, wanted, now: null };
     this.moves = moves;
@@ -151,10 +152,12 @@ export class Edits {
     while (this.moves === moves && moves.wanted !== moves.now) {
       const now = moves.wanted;
       moves.now = now;
-      const [text] = await run.preview(now.line, [`text ${end}`]);
+      const [text, outcome] = await run.preview(now.line, [`text ${end}`, ...app.story.lines]);
       app.panels.want(run, app.view.timeline.cursor);
       app.pictures.say("The lanes are those before the event's move.");
-      if (this.moves === moves && moves.wanted === now) app.text.show(text, now.turn);
+      if (this.moves !== moves || moves.wanted !== now) continue;
+      app.text.show(text);
+      app.story.show(outcome, now.turn);
     }
   }
 
@@ -227,6 +230,7 @@ export class Edits {
   async restore(kept) {
     const { app } = this, { run } = app.session;
     this.saved = kept?.saved ?? null;
+    app.notes.take(kept?.notes);
     if (!kept?.changes.length && !kept?.off?.length) return "";
     await this.inTurn(async () => {
       app.pasts.keepOld();
@@ -244,8 +248,9 @@ export class Edits {
   kept() {
     const { run: { ledger }, end } = this.app.session;
     const off = ledger.off.map(({ change, place }) => ({ change: change.map(kept), place }));
-    const { saved, app: { pasts: { compared } } } = this;
-    return { changes: ledger.changes.map(it => it.map(kept)), off, end, saved, compared };
+    const { saved, app: { pasts: { compared }, notes } } = this;
+    return { changes: ledger.changes.map(it => it.map(kept)), off, end, saved, compared,
+      notes: notes.kept() };
   }
 
   noteSaved() {
@@ -253,14 +258,16 @@ export class Edits {
     this.show();
   }
 
+  /** A sum of what is saved. */
   sum() {
-    return sumOf([this.app.session.run.past.lines().join("\n")]);
+    const { session: { run }, notes } = this.app;
+    return sumOf([...run.past.lines(), ...notes.lines()]);
   }
 
   /** Whether something would be lost if the page were left now. */
   areUnsaved() {
-    const { opened } = this.app;
-    return Boolean(opened?.run.ledger.changes.length) && this.sum() !== this.saved;
+    const { opened, notes } = this.app, hasEdits = opened?.run.ledger.changes.length;
+    return Boolean(opened && (hasEdits || notes.kept())) && this.sum() !== this.saved;
   }
 
   /** An edit that the past takes, as an example: it moves the story's event to where it is safe. */

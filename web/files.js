@@ -9,6 +9,7 @@ import { beginsAsTape } from "./kinds.js";
 import { loadedOf } from "./loading.js";
 import { visibleName } from "./replies.js";
 import { latin1, linesOf, readableLine, withFile } from "./session.js";
+import { linesOfStory } from "./story.js";
 import { fileInWords } from "./symbol-files.js";
 import { modesOfSymbols, namesOf } from "./symbols.js";
 
@@ -45,13 +46,15 @@ export function savedName(session, end) {
   return `${visibleName(name).replace(/[^\w.-]+/g, "-")}${end}`;
 }
 
-/** The past as a session, with its options. What these name isn't in it.
-    @param {Session} session @param {Past} past @param {number} end */
-export function textOfPast(session, past, end) {
+/** The past as a session, with its options, its names and story, and these lines of notes. What the
+    options name isn't in it.
+    @param {Session} session @param {Past} past @param {number} end @param {string[]} notes */
+export function textOfPast(session, past, end, notes = []) {
   // a comment has at most 200 bytes too
   const head = `# ${visibleName(session.name).slice(0, 40)}, saved by the page.`;
   const asked = [`regs ${end}`, `text ${end}`];
-  const lines = [head, ...optionLines(session.arguments), ...linesOfNames(session)];
+  const told = [...linesOfNames(session), ...linesOfStory(session)].map(readableLine);
+  const lines = [head, ...optionLines(session.arguments), ...told, ...notes];
   return `${[...lines, ...past.lines(), ...asked].join("\n")}\n`;
 }
 

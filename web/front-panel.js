@@ -57,7 +57,7 @@ export class FrontPanel {
     element("front-address").append(this.address);
     element("front-data").append(this.data);
     this.switches = this.makeSwitches();
-    this.place.addEventListener("toggle", () => this.ask());
+    this.place.addEventListener("toggle", () => this.look());
     element("front-set").addEventListener("click", () => this.set());
     element("front-continue").addEventListener("click", () => this.event("continue"));
     element("front-examine").addEventListener("click", () => this.examine());
@@ -66,20 +66,8 @@ export class FrontPanel {
 
   // Lights
 
-  pastChanged() {
-    this.ask();
-  }
-
-  cursorMoved() {
-    this.ask();
-  }
-
-  tabOpened() {
-    this.ask();
-  }
-
   /** Shows the machine before the cursor's turn, if the panel is seen. */
-  ask() {
+  look() {
     const { app } = this;
     if (!this.place.open || !app.isOpen || !app.dock.isSeen("machine")) return;
     this.examined = null;

@@ -13,9 +13,10 @@ import { isEdit } from "./past.js";
 
 /**
  * The edits, the turn up to which the run was shown, a sum of the past that was saved last, and the
- * name of the past with which it is compared, if that isn't the session as it was opened.
+ * name of the past with which it is compared, if that isn't the session as it was opened; and the
+ * notes, if they aren't those of the session.
  * @typedef {{changes: KeptEdit[][], end: number, off?: {change: KeptEdit[], place: number}[],
- *   saved: string | null, compared?: string}} KeptEdits
+ *   saved: string | null, compared?: string, notes?: import("./notes.js").Note[]}} KeptEdits
  */
 
 /**
@@ -152,7 +153,7 @@ export function keptEdits(session) {
 /** Keeps the edits of a session. Returns whether the browser does so.
     @param {Session} session @param {KeptEdits} edits */
 export function keepEdits(session, edits) {
-  const { changes, off, compared } = edits;
-  const hasAny = changes.length || off?.length || compared !== undefined || ofPage;
+  const { changes, off, compared, notes } = edits;
+  const hasAny = changes.length || off?.length || compared !== undefined || notes || ofPage;
   return keep(keyOfEdits(session), hasAny ? JSON.stringify(edits) : null);
 }

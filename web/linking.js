@@ -4,16 +4,21 @@
 import { isSameSession } from "./examples.js";
 import { firstSession, isOwn, keptEdits, sumOfSession } from "./kept.js";
 import { renumbered } from "./ledger.js";
-import { LinkError, editsOfLink, hasEdits, wordsOfLink } from "./links.js";
+import {
+  LinkError, editsOfLink, hasEdits, moreOfLink, wordsOfLink, wordsOfMore,
+} from "./links.js";
 import { element, make } from "./page.js";
 import { fragmentOf, placeOf } from "./place.js";
 import { counted } from "./replies.js";
+import { storePasts, storedPasts } from "./stored.js";
 
 /**
- * The example that a link is about, and its edits.
- * @typedef {{session: import("./session.js").Session, done: Done}} Linked
+ * The example that a link is about, its edits, and what it shows besides them.
+ * @typedef {{session: import("./session.js").Session, done: Done, more: MoreShown}} Linked
+ * @typedef {import("./links.js").MoreShown} MoreShown
  * @typedef {import("./stored.js").Changes} Changes
  * @typedef {import("./links.js").Done} Done
+ * @typedef {import("./notes.js").Note} Note
  * @typedef {Partial<import("./place.js").Place>} Place
  * @typedef {import("./kept.js").KeptEdits} KeptEdits
  */
@@ -48,6 +53,26 @@ function renumberedOff(off) {
 
 /** @param {Changes} changes */
 const linesOf = changes => JSON.stringify(changes.map(it => it.map(({ line }) => line)));
+
+/** Keeps the past with which a link compares, and returns its name: another one if a past of one's
+    own has it.
+    @param {import("./session.js").Session} session
+    @param {import("./stored.js").StoredPast | undefined} past */
+function keepLinked(session, past) {
+  if (!past) return undefined;
+  const own = storedPasts(session), same = own.find(it => it.name === past.name);
+  const isSame = same && same.lines.join() === past.lines.join();
+  const name = same && !isSame ? `${past.name.slice(0, 28)} of the link` : past.name;
+  if (!isSame) storePasts(session, [...own.filter(it => it.name !== name), { ...past, name }]);
+  return name;
+}
+
+/** One's own notes and those of a link, if there are any.
+    @param {Note[] | undefined} own @param {Note[] | undefined} linked */
+function joined(own, linked) {
+  const all = [...own ?? [], ...linked ?? []].map(it => JSON.stringify(it));
+  return own || linked ? [...new Set(all)].map(it => JSON.parse(it)) : undefined;
+}
 
 /** Whether a change that makes no event is one of those of a link.
     @param {Changes[0]} change @param {Changes} changes */
@@ -90,7 +115,10 @@ export class Linking {
       const { changes, off = [] } = app.edits.kept(), done = { changes, off };
       const words = await wordsOfLink(key, sumOfSession(contents), done);
       const place = fragmentOf(app.view.place()).slice(1);
-      this.offer(`${location.href.replace(/#.*$/s, "")}#${words}&${place}`, done);
+      const past = app.pasts.comparedPast, notes = app.notes.kept();
+      const more = await wordsOfMore({ ...app.watched.kept(), ...notes ? { notes } : {},
+        ...past ? { past } : {} });
+      this.offer(`${location.href.replace(/#.*$/s, "")}#${words}&${place}${more}`, done);
     }, error => this.offerPage(error));
   }
 
@@ -161,7 +189,7 @@ export class Linking {
       if (!isOf(sumOfSession(session))) {
         throw new LinkError("it is about another version of an example than this page has");
       }
-      return { linked: { session, done }, why: "" };
+      return { linked: { session, done, more: await moreOfLink(fragment) }, why: "" };
     } catch (error) {
       if (!(error instanceof LinkError)) throw error;
       const why = `The link can't be opened: ${error.message}. Nothing was changed.`;
@@ -180,7 +208,7 @@ export class Linking {
 
   /** Makes the edits of a link. Those of one's own are switched off.
       @param {Linked} found @param {Place} place */
-  async open({ session, done }, place) {
+  async open({ session, done, more }, place) {
     const { app } = this, { changes } = done;
     const isOpen = app.opened && isSameSession(session, app.opened.contents);
     const kept = isOpen ? app.edits.kept() : keptEdits(session);
@@ -196,8 +224,10 @@ export class Linking {
     const left = [...own, ...(before.off ?? []).filter(it => !isInLink(it.change))];
     const mine = renumberedOff(left.map(it => ({ ...it, place: 0 })));
     const off = [...mine, ...structuredClone(done.off)];
+    const compared = keepLinked(session, more.past);
     await app.examples.begin(session, place, { changes: structuredClone(changes), off,
-      end: before.end, saved: null });
+      end: before.end, saved: null, compared, notes: joined(before.notes, more.notes) });
+    app.watched.take(more);
     if (!mine.length) app.edits.noteSaved();
     this.tell(done, own.map(it => it.change));
   }

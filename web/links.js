@@ -1,9 +1,12 @@
-// A link that holds the edits of one of the page's examples, on and off: as the part of an address
-// after #. The lines stand there as they are, with - for a space; if that is long, they are packed.
+// A link that holds the edits of one of the page's examples, on and off, and what is shown of it:
+// as the part of an address after #. The lines of edits stand there as they are, with - for a
+// space; if that is long, they are packed.
 
 import { sumOf } from "./kept.js";
+import { notesKept } from "./notes.js";
 import { isEdit, wordsOfLine } from "./past.js";
 import { latin1 } from "./session.js";
+import { isStoredPast } from "./stored.js";
 import { itemsOf } from "./switching.js";
 
 const [LONGEST_PLAIN, LONGEST_LINK, LONGEST_TEXT] = [400, 8_000, 200_000];
@@ -108,6 +111,45 @@ export async function wordsOfLink(key, sum, done) {
   }
   const name = isPlain ? "edits" : "packed";
   return `${name}=${[key, shortSum(sum), shortSum(text)].join(CHANGE)}${CHANGE}${held}`;
+}
+
+/**
+ * What a link shows besides edits, as far as it isn't what is shown anyway: words and registers of
+ * the watch list, by their names; notes; and the past that is compared with.
+ * @typedef {{words?: string[], registers?: string[], notes?: import("./notes.js").Note[],
+ *   past?: import("./stored.js").StoredPast}} MoreShown
+ */
+
+/** The words of an address for what a link shows besides edits; an empty text if that is nothing.
+    @param {MoreShown} more */
+export async function wordsOfMore(more) {
+  const text = JSON.stringify(more);
+  if (text === "{}") return "";
+  const held = await packed(text);
+  if (text.length > LONGEST_TEXT || held.length > LONGEST_LINK) {
+    throw new LinkError(`its notes and words take ${held.length} bytes, and a link has `
+      + `${LONGEST_LINK}`);
+  }
+  return `&shown=${shortSum(text)}${CHANGE}${held}`;
+}
+
+/** What a fragment shows besides edits. A LinkError says what is wrong.
+    @param {string} fragment @returns {Promise<MoreShown>} */
+export async function moreOfLink(fragment) {
+  const shown = new URLSearchParams(fragment.replace(/^#/, "")).get("shown");
+  if (shown === null) return {};
+  const [check, held = ""] = shown.split(CHANGE);
+  const text = held.length > 2 * LONGEST_LINK ? "" : await unpacked(held);
+  if (shortSum(text) !== check) throw new LinkError(CUT);
+  const more = JSON.parse(text);
+  /** @param {any} it */
+  const areTexts = it => it === undefined
+    || Array.isArray(it) && it.every(one => typeof one === "string");
+  const isRight = areTexts(more.words) && areTexts(more.registers)
+    && (more.notes === undefined || notesKept(more.notes))
+    && (more.past === undefined || isStoredPast(more.past));
+  if (!isRight) throw new LinkError("it shows what this page doesn't know");
+  return more;
 }
 
 /** What a fragment says of edits, or null if it says nothing of them.

@@ -9,6 +9,10 @@ import { choice, element, field } from "./page.js";
 import { LAST_TURN } from "./replies.js";
 import { listLanes } from "./signs.js";
 
+/** Whether a key is struck with another that makes it the browser's.
+    @param {KeyboardEvent} event */
+const hasOther = ({ altKey, ctrlKey, metaKey }) => altKey || ctrlKey || metaKey;
+
 /** @param {string} id @param {() => void} act */
 function onClick(id, act) {
   const it = element(id);
@@ -54,7 +58,7 @@ function bindTurns(app) {
   document.body.addEventListener("keydown", event => {
     const at = event.target instanceof Element ? event.target : null;
     const isFree = at === document.body || at?.closest(".link");
-    if (!isFree || event.altKey || event.ctrlKey || event.metaKey || event.key === " ") return;
+    if (!isFree || hasOther(event) || event.key === " ") return;
     if (app.view.timeline.act(event.key, event.shiftKey)) event.preventDefault();
   });
 }
@@ -72,6 +76,7 @@ function bindEdits(app) {
   onClick("find-before", () => app.finder.find(-1));
   onClick("step-over", () => app.stepping.over());
   onClick("step-out", () => app.stepping.out());
+  onClick("sit", () => app.console.sit());
   onForm("watch-form", "watch", value => app.watched.turnNamed(value));
   onClick("undo", () => app.edits.undo());
   onClick("redo", () => app.edits.redo());
@@ -81,13 +86,16 @@ function bindEdits(app) {
   onClick("sweep-stop", () => app.sweep.end());
 }
 
-/** The legend opens by `?`, where no text is typed, and closes by Escape. */
-function bindHelp() {
+/** The legend opens by `?`, where no text is typed, and closes by Escape; `m` goes to where a note
+    is written.
+    @param {App} app */
+function bindHelp(app) {
   const help = /** @type {HTMLDetailsElement} */ (element("help"));
   addEventListener("keydown", event => {
     const { key, target } = event;
     const types = target instanceof Element && target.matches("input, select, [role=textbox]");
     if (key === "?" && !types) help.open = !help.open;
+    else if (key === "m" && !types && !hasOther(event)) app.notes.write();
     else if (key === "Escape" && help.open) help.open = false;
     else return;
     event.preventDefault();
@@ -121,7 +129,7 @@ function begin() {
   bindTurns(app);
   bindEdits(app);
   listLanes();
-  bindHelp();
+  bindHelp(app);
   keepLook(choice("look"), () => app.view.timeline.draw());
   /** @type {NodeListOf<HTMLElement>} */
   const lists = document.querySelectorAll("[data-list]");

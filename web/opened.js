@@ -3,7 +3,7 @@
 
 import { Run } from "./run.js";
 import { lastTurnOf } from "./session.js";
-import { isStory } from "./story.js";
+import { storyOf } from "./story.js";
 import { symbolsOfSession } from "./symbols.js";
 
 const FEWEST_TURNS = 1_000;
@@ -44,7 +44,10 @@ export class OpenSession {
     /** The turn up to which the run is shown. */
     this.end = Math.max(run.past.script.at(-1)?.turn ?? 0, lastTurnOf(taken)) || FEWEST_TURNS;
     this.symbols = symbolsOfSession(contents);
-    this.isStory = isStory(contents, run.past);
+    const { story, wrong } = storyOf(contents, this.end);
+    this.story = story;
+    /** Lines of a story that can't be read. */
+    this.wrong = wrong;
   }
 
   /** Another machine of the session that has taken nothing. */

@@ -48,7 +48,8 @@ export class Opening {
     element("own").hidden = isOwn(contents);
     element("session-kept").hidden = true;
     const restored = await app.edits.restore(edits);
-    app.say([said, restored].filter(Boolean).join(" "));
+    const wrong = app.session.wrong.map(it => `This line of the story can't be read: ${it}.`);
+    app.say([said, ...wrong.slice(0, 1), restored].filter(Boolean).join(" "));
     app.view.showBeginning();
     app.sweep.offer();
     await app.changed();
@@ -139,7 +140,8 @@ export class Opening {
     const { app } = this;
     return app.attempt(async () => {
       const { contents, run, end } = app.session, past = await run.askPast();
-      saveFile(savedName(contents, ".session"), textOfPast(contents, past, end), "text/plain");
+      const text = textOfPast(contents, past, end, app.notes.lines());
+      saveFile(savedName(contents, ".session"), text, "text/plain");
       app.edits.noteSaved();
       const files = Object.keys(contents.files).map(visibleName).join(", ");
       app.say(files ? `Saved. It is opened with its files: ${files}` : "Saved.");

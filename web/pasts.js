@@ -96,6 +96,14 @@ export class NamedPasts {
     return this.choice.selectedIndex > 0 ? this.chosen.name : undefined;
   }
 
+  /** The past that is compared with, as it is stored, if it isn't the session as it was opened.
+      @returns {import("./stored.js").StoredPast | undefined} */
+  get comparedPast() {
+    if (this.compared === undefined) return undefined;
+    const { name, lines, changes = [], end = 0 } = this.chosen;
+    return { name, lines, changes, end };
+  }
+
   /** Chooses the past with this name, if it is still there.
       @param {string | undefined} name */
   restore(name) {
@@ -133,7 +141,8 @@ export class NamedPasts {
     return app.attempt(async () => {
       await app.edits.last;
       const said = await this.keepLeft();
-      const edits = { changes: structuredClone(changes), off: [], end, saved: null };
+      const edits = { changes: structuredClone(changes), off: [], end, saved: null,
+        notes: app.notes.kept() };
       await app.opening.open(app.session.contents, app.view.place(), edits);
       app.say(`This is the past ${name} now.${said}`);
     });

@@ -1,7 +1,7 @@
 // The pictures that the timeline draws: they are asked of the run, and of the old past, for the
 // turns in sight, and what of them is sampled is said.
 
-import { NOTHING_SAMPLED, notesOf } from "./notes.js";
+import { NOTHING_SAMPLED, sampledIn } from "./sampled.js";
 import { delayed, element } from "./page.js";
 import { PictureMaker } from "./picture.js";
 import { LAST_TURN } from "./replies.js";
@@ -36,7 +36,7 @@ export class Pictures {
   }
 
   stopped() {
-    this.showNotes(STOPPED);
+    this.showSampled(STOPPED);
   }
 
   /** Draws the turns in sight once they have rested. */
@@ -51,7 +51,7 @@ export class Pictures {
     const { app } = this, { session: { run, old, oldIsLoaded } } = app, wanted = this.wanted();
     const token = app.token("picture");
     this.isAsked = true;
-    this.showNotes();
+    this.showSampled();
     app.attempt(async () => {
       const { sampledVectors } =
         await new PictureMaker(run, wanted, token, it => this.show(it, "picture")).make();
@@ -80,13 +80,13 @@ export class Pictures {
     if (picture.isMade && place === "picture") minimap.note(picture);
     timeline.draw();
     if (place === "picture") this.isAsked = !picture.isMade;
-    this.showNotes();
+    this.showSampled();
   }
 
   /** What of the picture is sampled, and what isn't known. */
-  showNotes(unknown = ASKED) {
+  showSampled(unknown = ASKED) {
     const { picture, ghost } = this.app.view.timeline;
-    const sampled = picture?.isMade ? notesOf(picture, ghost) : [];
+    const sampled = picture?.isMade ? sampledIn(picture, ghost) : [];
     const notes = this.isAsked ? [unknown, ...sampled.filter(it => it !== NOTHING_SAMPLED)]
       : sampled;
     this.say(notes.join(" "));
@@ -94,6 +94,6 @@ export class Pictures {
 
   /** @param {string} text */
   say(text) {
-    element("notes").textContent = text;
+    element("sampled").textContent = text;
   }
 }

@@ -39,22 +39,22 @@ export class Reasons {
       this.show(new MadeQuestion(app, madeNamed(name) ?? app.finder.wordOf(name))));
   }
 
-  /** Why something is so before the cursor's turn; the panel is brought into sight.
-      @param {import("./made.js").MadeThing} thing */
-  ask(thing) {
+  /** Why something is so before a turn, that of the cursor if none is given; the panel is brought
+      into sight.
+      @param {import("./made.js").MadeThing} thing @param {number} [turn] */
+  ask(thing, turn) {
     this.app.dock.bring("why-panel");
-    return this.attempt(() => this.show(new MadeQuestion(this.app, thing)));
+    return this.attempt(() => this.show(new MadeQuestion(this.app, thing), turn));
   }
 
-  /** Why something was so in the old past, before a turn that `find` finds there.
-      @param {import("./made.js").MadeThing} thing @param {(ask: Ask) => Promise<number>} find */
-  askOld(thing, find) {
+  /** Why something was so in the old past, before a turn.
+      @param {import("./made.js").MadeThing} thing @param {number} turn */
+  askOld(thing, turn) {
     const { app } = this, { old: run, oldIsLoaded, base: { past } } = app.session;
     if (!run) return undefined;
     app.dock.bring("why-panel");
     return this.attempt(async () => {
       await oldIsLoaded;
-      const turn = await find(asker(run, app.token("why")));
       await this.show(new MadeQuestion(app, thing, { run, past }), turn);
     });
   }

@@ -32,8 +32,9 @@ function read(key) {
 /** @param {string[]} lines */
 const areEdits = lines => lines.every(it => isEdit(it) && !/[\r\n]/.test(it));
 
-/** @param {StoredPast} past */
-function isRight({ name, lines, changes, end }) {
+/** Whether a past is as this page stores it.
+    @param {StoredPast} past */
+export function isStoredPast({ name, lines, changes, end }) {
   return typeof name === "string" && name.length <= LONGEST_NAME && Number.isSafeInteger(end)
     && areEdits(lines) && changes.every(it => areEdits(it.map(({ line }) => line)));
 }
@@ -42,7 +43,7 @@ function isRight({ name, lines, changes, end }) {
 export function storedPasts(session) {
   try {
     const found = JSON.parse(read(keyOf(session)) ?? "null") ?? shownOf(session)?.pasts ?? [];
-    return found.every(isRight) ? found : [];
+    return found.every(isStoredPast) ? found : [];
   } catch {
     return [];
   }

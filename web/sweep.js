@@ -5,7 +5,6 @@ import { element, field, link, make, part, table } from "./page.js";
 import { eventInWords, isEdit, wordsOfLine } from "./past.js";
 import { isRefused } from "./replies.js";
 import { Priority } from "./run.js";
-import { STORY } from "./story.js";
 
 const MOST_TURNS = 20_000;
 const TURNS_AT_ONCE = 32;
@@ -89,10 +88,9 @@ export class Sweep {
   /** The form for a session: the event is one of its script. */
   offer() {
     this.clear();
-    const { isStory, end } = this.app.session;
-    const question = isStory ? `dsk ${end} 0 1` : `text ${end}`;
-    const { event, from, to } = isStory ? STORY.sweep : { event: "", from: "", to: "" };
-    for (const [name, value] of Object.entries({ event, from, to, question })) {
+    const { story, end } = this.app.session;
+    const offered = story?.sweep ?? { event: "", from: "", to: "", question: `text ${end}` };
+    for (const [name, value] of Object.entries(offered)) {
       field(`sweep-${name}`).value = String(value);
     }
     this.showChosen();

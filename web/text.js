@@ -49,16 +49,16 @@ export class ConsoleText {
     if (this.isStale()) this.ask();
   }
 
-  /** Asks for the text if it is seen, or the story has its balance of it; and for that of the old
-      past if that isn't known up to this turn. */
+  /** Asks for the text if it is seen, and for that of the old past if that isn't known up to this
+      turn. */
   ask() {
-    const { app } = this, { run, old, oldIsLoaded, end, isStory } = app.session;
+    const { app } = this, { run, old, oldIsLoaded, end } = app.session;
     const token = app.token("text");
     const priority = run.isNear(end) ? Priority.CURSOR : Priority.TEXT;
     /** @param {import("./run.js").Run} it */
     const textOf = it => it.askOne(`text ${end}`, priority, token);
     this.mark();
-    if (!isStory && !app.dock.isSeen("console")) return;
+    if (!app.dock.isSeen("console")) return;
     app.attempt(async () => {
       const reply = await textOf(run);
       if (!old) this.old = { end, ...shownText(reply) };
@@ -72,10 +72,8 @@ export class ConsoleText {
 
   /** Says of which turn and past the text is. */
   mark() {
-    const { session: { run, end }, outcome } = this.app;
-    const place = element("text-turn");
-    markTurn(place, this.shown, stateOf(run, end));
-    if (this.shown && place.classList.contains("stale")) outcome.ask();
+    const { run, end } = this.app.session;
+    markTurn(element("text-turn"), this.shown, stateOf(run, end));
   }
 
   /** The number of the byte that is shown as a character.
@@ -95,10 +93,9 @@ export class ConsoleText {
     this.mark();
   }
 
-  /** Shows a text. `moved` is the turn to which an event is carried, if it is that one's.
-      @param {string} reply @param {number | null} moved */
-  show(reply, moved = null) {
-    const { app, old } = this, { session } = app;
+  /** @param {string} reply */
+  show(reply) {
+    const { app: { session }, old } = this;
     const { text, count, isCut, bytes } = shownText(reply), first = lengthOf(reply) - count;
     this.numbers = shownBytes(bytes).map(it => first + it);
     const isCompared = old?.end === session.end && !isCut && !old.isCut;
@@ -107,6 +104,5 @@ export class ConsoleText {
     this.shown = { ...stateOf(session.run, session.end), more };
     element("text").replaceChildren(...marked(text, isCompared ? old.text : text));
     this.mark();
-    app.outcome.show(text, moved);
   }
 }

@@ -9,7 +9,6 @@ import { keepPlace } from "./place.js";
 import { registersOf } from "./replies.js";
 import { Priority } from "./run.js";
 import { Sight } from "./sight.js";
-import { STORY } from "./story.js";
 import { Timeline } from "./timeline.js";
 import { Tips } from "./tips.js";
 
@@ -50,8 +49,16 @@ export class PageView {
       onDraw: () => app.tasks.add(1), onDrawn: () => this.drawn(),
       onOpen: event => app.edits.openEvent(event),
       onDelete: event => app.events.drop(event), onList: turn => app.events.open(turn),
-      onKey: key => this.tips.act(key), turnAt: (x, y) => this.tips.turnAt(x, y),
+      onKey: key => this.keyAct(key), turnAt: (x, y) => this.tips.turnAt(x, y),
     };
+  }
+
+  /** What a key at the timeline does. Returns whether it does something.
+      @param {string} key */
+  keyAct(key) {
+    if (key !== " ") return this.tips.act(key);
+    this.app.play.toggle();
+    return true;
   }
 
   // What the page tells its parts
@@ -64,11 +71,11 @@ export class PageView {
   }
 
   pastChanged() {
-    const { timeline } = this, { run, old, base, isStory } = this.app.session;
+    const { timeline } = this, { run, old, base, story } = this.app.session;
     timeline.picture = null;
     this.minimap.forget();
     timeline.showPasts(run.past, old ? base.past : run.past);
-    timeline.wanted = isStory && !run.ledger.changes.length ? STORY.sweep.event : 0;
+    timeline.wanted = run.ledger.changes.length ? 0 : story?.target?.event ?? 0;
     timeline.draw();
   }
 
@@ -77,6 +84,7 @@ export class PageView {
     this.sight.showLater();
     this.minimap.draw();
     this.path.draw();
+    this.app.notes.draw();
     this.app.tasks.add(-1);
   }
 
@@ -84,24 +92,24 @@ export class PageView {
 
   /** Shows a session from its beginning, or where its story is. */
   showBeginning() {
-    const { timeline } = this, { isStory, end } = this.app.session;
+    const { timeline } = this, { end, story } = this.app.session, turns = story?.turns;
     timeline.ghost = null;
-    if (isStory) timeline.show(STORY.first, STORY.span);
+    if (turns) timeline.show(turns.first, turns.span);
     else timeline.show(0, Math.max(FEWEST_TURNS, end));
-    timeline.setCursor(isStory ? STORY.cursor : 0, { isTold: false });
+    timeline.setCursor(turns?.cursor ?? 0, { isTold: false });
   }
 
   /** Shows the turns up to which the machine runs, if it halts so early that they have few pixels,
       and the user hasn't gone elsewhere by then. */
   showRunning() {
-    const { app, timeline: { view } } = this, { run, end, isStory } = app.session;
+    const { app, timeline: { view } } = this, { run, end, story } = app.session;
     const { first, span } = view, token = app.token("beginning");
     const priority = run.isNear(end) ? Priority.CURSOR : Priority.COMPARISON;
     /** @param {number} turn */
     const isHalted = async turn =>
       registersOf(await run.askOne(`regs ${turn}`, priority, token)).state === "halted";
     return app.attempt(async () => {
-      if (isStory || !await isHalted(end)) return;
+      if (story?.turns || !await isHalted(end)) return;
       // after the last event it halts for good
       let [low, high] = [run.past.script.at(-1)?.turn ?? 0, end];
       while (high - low > 1) {

@@ -8,7 +8,9 @@ import { element, make, table } from "./page.js";
 import { questionOf, whyNoWord } from "./picture.js";
 import { isRefused, octal, registersOf, wordsOf } from "./replies.js";
 import { Priority } from "./run.js";
-import { STORY } from "./story.js";
+
+// So many of the words that the session names are drawn at first.
+const MOST_NAMED = 8;
 
 /**
  * @typedef {import("./names.js").WatchedWord} WatchedWord
@@ -35,25 +37,38 @@ export class Watched {
 
   /** Another session is open. */
   sessionBegins() {
-    const { isStory, contents } = this.app.session;
-    this.words = shownOf(contents)?.words ?? (isStory ? STORY.words : []);
-    this.registers = (shownOf(contents)?.registers ?? []).filter(it => isRegister(it));
+    const { contents } = this.app.session;
     this.called = namesOfSession(contents);
+    const named = [...this.called.keys()].slice(0, MOST_NAMED).flatMap(it => wordNamed(it) ?? []);
+    this.words = shownOf(contents)?.words ?? named;
+    this.registers = (shownOf(contents)?.registers ?? []).filter(it => isRegister(it));
     this.values = new Map();
     this.olds = new Map();
   }
 
   pastChanged() {
     this.show();
-    this.ask();
+    this.look();
   }
 
-  cursorMoved() {
-    this.ask();
+  /** The names of what is watched, as far as that isn't what the session names.
+      @returns {{words?: string[], registers?: string[]}} */
+  kept() {
+    const { registers } = this, names = this.words.map(nameOfWord);
+    const begun = [...namesOfSession(this.app.session.contents).keys()].slice(0, MOST_NAMED);
+    return { ...names.join() === begun.join() ? {} : { words: names },
+      ...registers.length ? { registers } : {} };
   }
 
-  tabOpened() {
-    this.ask();
+  /** Watches what has these names.
+      @param {{words?: string[], registers?: string[]}} kept */
+  take({ words, registers }) {
+    if (words) this.words = words.flatMap(it => wordNamed(it) ?? []);
+    if (registers) this.registers = registers.filter(isRegister);
+    this.show();
+    this.look();
+    this.app.pictures.draw();
+    this.app.view.timeline.draw();
   }
 
   /** Draws a word, or no longer if it is drawn already.
@@ -62,7 +77,7 @@ export class Watched {
     const others = this.words.filter(it => nameOfWord(it) !== nameOfWord(word));
     this.words = others.length < this.words.length ? others : [...this.words, word];
     this.show();
-    this.ask();
+    this.look();
     this.app.pictures.draw();
     this.app.view.timeline.draw();
   }
@@ -73,7 +88,7 @@ export class Watched {
     const others = this.registers.filter(it => it !== name);
     this.registers = others.length < this.registers.length ? others : [...others, name];
     this.show();
-    this.ask();
+    this.look();
   }
 
   /** What a word is called, and its name.
@@ -107,7 +122,7 @@ export class Watched {
   }
 
   /** Asks for the values before the cursor's turn, if the list is seen. */
-  ask() {
+  look() {
     const { app } = this, { run, old, oldIsLoaded, base } = app.session;
     const { cursor } = app.view.timeline, state = stateOf(run, cursor);
     const place = element("watched-turn"), token = app.token("watched");
