@@ -5,9 +5,10 @@ from typing import Mapping, NamedTuple
 
 import bundle
 from nezdrab.core.options import options_of_session
+from nezdrab.core.replies import Mode
 from nezdrab.core.symbol_files import Symbol, symbol_file
 from nezdrab.export.page_file import PageSession
-from nezdrab.export.web_session import held, session_for_page
+from nezdrab.export.web_session import SYMBOLS, held, session_for_page
 from nezdrab.shell.load import Loaded, loaded_program, loaded_tape
 from webassembly import files as modules
 
@@ -18,15 +19,22 @@ PROGRAMS = {".lda": loaded_tape, ".aout": loaded_program}
 
 
 class Place(NamedTuple):
-    """An example: its name in a link, what the page calls it, and its file below examples/."""
+    """An example: its name in a link, what the page calls it, its file below examples/, what is
+    asked beside its own lines, so that the page shows the turns up to there, and the files of
+    symbols of kernel mode, if another one than kernel.sym beside it."""
 
     key: str
     title: str
     file: str
+    asked: tuple[str, ...] = ()
+    symbols: tuple[str, ...] = ()
 
 
+NAMES_OF_FORTH = ("forth/kernel.sym", "forth/words.sym")
 PLACES = (
     Place("ledger", "A bank's ledger, and a lost deposit", "ledger/ledger.session"),
+    Place("forth", "A Forth to sit at", "forth/forth.session", ("text 1000000",), NAMES_OF_FORTH),
+    Place("note", "A Forth, and a lost note", "forth/long/lost-note.session", (), NAMES_OF_FORTH),
     Place("keys", "A system that counts the keys of a line", "moved-keys.session"),
     Place("reader", "A paper tape in the reader", "tape-to-console.session"),
     Place("tape", "A paper tape of the absolute loader", "media/hello.lda"),
@@ -72,5 +80,14 @@ def example_of(path: Path) -> PageSession:
     return session._replace(lines=session.lines[:end])
 
 
+def bundled(place: Place) -> bundle.Example:
+    found = example_of(FOLDER / place.file)
+    files = dict(found.files)
+    if place.symbols:
+        files[SYMBOLS[Mode.KERNEL]] = b"".join(held(FOLDER / it) for it in place.symbols)
+    session = found._replace(lines=[*found.lines, *place.asked], files=files)
+    return bundle.Example(place.key, place.title, session)
+
+
 def examples_for_page() -> list[bundle.Example]:
-    return [bundle.Example(key, title, example_of(FOLDER / file)) for key, title, file in PLACES]
+    return [bundled(it) for it in PLACES]

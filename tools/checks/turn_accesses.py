@@ -8,10 +8,10 @@ from typing import Optional
 from checks.flows import each_flow, word_of
 from checks.systems import System
 from checks.transfers import Disk
-from nezdrab.analysis.cells import IO_PAGE
 from nezdrab.analysis.operands import Access, Flow
 from nezdrab.analysis.turn_flow import Flows
 from nezdrab.core.engine import Machine, Start
+from nezdrab.core.hardware import IO_PAGE
 
 MOST_TURNS, MOST_CYCLES = 64, 256
 MODES = ("kernel", "01", "10", "user")

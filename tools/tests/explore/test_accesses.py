@@ -4,9 +4,9 @@ from pathlib import Path
 
 import sessions
 from checks.flows import each_flow
-from nezdrab.analysis.cells import IO_PAGE
 from nezdrab.core.engine import MOST_WORDS, Machine, Start
 from nezdrab.core.errors import ExploreError
+from nezdrab.core.hardware import IO_PAGE
 from nezdrab.shell.commands import COMMANDS
 
 from .common import BUILT, ROOT

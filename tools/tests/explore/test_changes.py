@@ -87,6 +87,77 @@ class Changes(OfSystems):
         in_core = self.explore(f"changes 30000 {where}\n", *LEDGER).splitlines()
         self.assertEqual(written[1:], in_core)
 
+    def rows(self, written: str) -> list[tuple[int, ...]]:
+        """The rows of a range: turn, place, and words; the last line is left out."""
+        lines = written.splitlines()[1:-1]
+        rows = (it.split("  cpu")[0].split("  disk")[0].split() for it in lines)
+        return [(int(turn), *(int(it, 8) for it in words)) for turn, *words in rows]
+
+    def test_words_of_a_range(self) -> None:
+        """Against the words before each turn, and for writes against each word by itself."""
+        for words, first, begin in ((LEDGER, 126_500, 0o766), (KEYS, 1_000, 0o770)):
+            machine, end = self.machine(words), begin + 0o12
+            turns = range(first, first + TURNS)
+            values = [machine.words(it, begin, 6) for it in (*turns, turns.stop)]
+            wanted = [
+                (turn, begin + 2 * at, *pair)
+                for turn, before, after in zip(turns, values, values[1:])
+                for at, pair in enumerate(zip(before, after))
+                if pair[0] != pair[1]
+            ]
+            where = f"{begin:o}..{end:o} from {first} to {turns[-1]}"
+            written = self.explore(f"changes {where}\n", *words)
+            cut = self.rows(written)
+            self.assertEqual(cut, wanted[: len(cut)])
+            self.assertGreaterEqual(len(cut), min(SHOWN, len(wanted)))
+            writes = sorted(
+                (int(turn), address, int(word, 8))
+                for address in range(begin, end + 1, 2)
+                for turn, _, word in self.writes_of(machine, turns, address)
+            )
+            written = self.explore(f"writes {where}\n", *words)
+            cut = self.rows(written)
+            self.assertEqual(cut, writes[: len(cut)])
+            on = written.rpartition("; on: ")[2]
+            if len(cut) < len(writes):
+                self.assertNotEqual(cut[-1][0], writes[len(cut)][0])
+                further = self.rows(self.explore(on, *words))
+                self.assertEqual(further, writes[len(cut) :][: len(further)])
+
+    def writes_of(self, machine: Machine, turns: range, address: int) -> list[list[str]]:
+        found, left = list[list[str]](), turns
+        while left:
+            lines, left = machine.writes(left, address)
+            found += [it.split() for it in lines]
+        return found
+
+    def test_words_of_the_drive_in_a_range(self) -> None:
+        """A program writes 2, then 1 words of core to sector 0, and 300 words to sector 1."""
+        words: list[int] = [0o5237, 0o2000]
+        for count, core, sector in ((2, 0o2000, 0), (1, 0o2002, 0), (300, 0o1000, 1)):
+            words += [0o12737, 0o200000 - count, 0o177406, 0o12737, core, 0o177410]
+            words += [0o12737, sector, 0o177412, 0o12737, 3, 0o177404]
+            words += [0o105737, 0o177404, 0o100375]
+        past = "".join(f"core {0o1000 + 2 * at:o} {it:o}\n" for at, it in enumerate([*words, 0]))
+        past += "core 2002 7\ndisk 1 5\ndisk 1000 6\n"
+        asked = "".join(f"dsk {it} 0 256\ndsk {it} 400 256\ndsk {it} 1000 2\n" for it in range(90))
+        replies = self.explore(past + asked).splitlines()[len(past.splitlines()) :]
+        parts = [[int(it, 8) for it in line.split()[1:]] for line in replies]
+        states = [a + b + c for a, b, c in zip(parts[::3], parts[1::3], parts[2::3])]
+        wanted = [
+            (turn, at, *pair)
+            for turn, (before, after) in enumerate(zip(states, states[1:]))
+            for at, pair in enumerate(zip(before, after))
+            if pair[0] != pair[1]
+        ]
+        self.assertEqual(wanted[0][1:], (0, 0, 1))
+        written = self.explore(f"{past}changes disk 0..1001 to 88\n")
+        rows = self.rows("\n".join(written.splitlines()[len(past.splitlines()) :]))
+        self.assertEqual(rows, wanted)
+        some = self.explore(f"{past}changes disk 1..402 to 88\n")
+        rows = self.rows("\n".join(some.splitlines()[len(past.splitlines()) :]))
+        self.assertEqual(rows, [it for it in wanted if 1 <= it[1] <= 0o402])
+
     def test_what_is_refused(self) -> None:
         refused = (
             ("changes", "changes: the form is: changes A "),
@@ -97,6 +168,11 @@ class Changes(OfSystems):
             ("changes 30000 from 5 to 4", "changes: turn 4 comes before turn 5"),
             ("changes 30000 from 1000000000", "changes: turn 1000000000 is the end of the run"),
             ("changes NOWHERE", "changes: there is no symbol 'NOWHERE'"),
+            ("changes 5..3", "changes: a range has 1 to 4096 words, and this one has 0"),
+            ("changes disk 0..10000", "a range has 1 to 4096 words, and this one has 4097"),
+            ("changes 757776 2", "refused 2 OutsideCore"),
+            ("writes", "writes: the form is: writes A[..B] [from N] [to M]"),
+            ("writes 1..3", "refused 3 OddAddress"),
         )
         written = self.explore("".join(f"{it}\n" for it, _ in refused)).splitlines()
         for line, (_, said) in zip(written, refused):

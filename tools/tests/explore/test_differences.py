@@ -44,6 +44,30 @@ class Differences(OfSystems):
             wanted += "1 word of drive 0 differs\n"
         self.assertEqual(lines, wanted)
 
+    def test_two_pasts_against_each_word(self) -> None:
+        machine, turn = self.machine(LEDGER), 138_071
+        edit = "alter 15 126820 key 66"
+        lines = self.explore(f"{edit}\ncompare at {turn}\n", *LEDGER).splitlines()[1:]
+        self.assertEqual(lines[0], f"without | with: {edit}")
+        before = core_words(machine, turn), drive_image(machine, turn, 0)
+        machine.ask(edit)
+        after = core_words(machine, turn), drive_image(machine, turn, 0)
+        self.assertEqual(before[1], after[1])
+        wanted = [(2 * at, *it) for at, it in enumerate(zip(before[0], after[0])) if it[0] != it[1]]
+        rows = [it.split() for it in lines[2:-2]]
+        self.assertEqual([tuple(int(it, 8) for it in row[:3]) for row in rows], wanted)
+        self.assertEqual(lines[-2], f"{len(wanted)} words of core differ")
+        self.assertEqual(lines[-1], "no other word of core or of a drive differs")
+
+    def test_drives_of_two_pasts(self) -> None:
+        lines = "version 2\ndisk 3 5 6\ncompare at 9\nundo\ncompare at 9\n"
+        said = ["without | with: disk 3 5 6", "disk     without     with"]
+        said += ["0000005  000000      000006", "1 word of drive 3 differs"]
+        written = self.explore(lines, "examples/lost-update.session").splitlines()
+        self.assertEqual(written[2:7], [*said, "no other word of core or of a drive differs"])
+        none = "no word of core or of a drive differs"
+        self.assertEqual(written[-2:], ["without | with: version 2", none])
+
     def test_no_more_than_256_are_shown(self) -> None:
         """A program that counts in each word: MOV #2000,R0; INC (R0)+; BR .-2."""
         counting = "".join(

@@ -37,7 +37,7 @@ class Files(Case):
             ("nothing", "there is no line 'nothing'; help lists the topics\ndo: it:2: refused; "),
             ("load nowhere", "do: it:2: load: nowhere: No such file or directory; "),
             ("expect x within 5", "do: it:2: expect: 'x' isn't printed in the turns 0 to 4; "),
-            ("bt", "do: it:2: bt: `calls` lists "),
+            ("record", "do: it:2: record: each turn is recorded: "),
         ):
             self.put(line.split()[0], "core 2000 1", line, "core 2000 2")
             wanted[line.split()[0]] = said
@@ -154,11 +154,11 @@ class Words(Case):
 
     def test_a_word_of_another_debugger_may_be_defined(self) -> None:
         written = self.explore("b 1000\ndefine b break $*\nb 1000\nhelp b\nundefine b\nb 1000\n")
-        self.assertEqual("b: `break 1000`, then `continue`", written.splitlines()[0])
+        said = "`break 1000`, then `continue`"
         self.assertEqual(
-            written.splitlines()[1:5],
-            ["define b break $*", "breakpoint 1: break 1000", "define b break $*"]
-            + ["no more: define b break $*"],
+            written.splitlines(),
+            [said, "breakpoint 1: break 1000", "define b break $*", "breakpoint 2: break 1000"]
+            + ["define b break $*", "no more: define b break $*", said, "breakpoint 3: break 1000"],
         )
 
     def test_what_is_listed_defines_them_again(self) -> None:

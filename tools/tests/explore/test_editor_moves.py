@@ -151,7 +151,8 @@ class Going(OfEditors):
         editor.enter(**launch)
         for wrong, why in (
             ({"accessType": "execute"}, "no accessType"),
-            ({"accessType": "read", "condition": "r0 = 1"}, "no condition"),
+            ({"accessType": "read", "condition": "nothing"}, "no CONDITION"),
+            ({"accessType": "readWrite", "hitCondition": "5"}, "several places or accesses"),
         ):
             point = {"dataId": f"core {MOVES:o}", **wrong}
             (shown,) = editor.ask("setDataBreakpoints", breakpoints=[point])["breakpoints"]
@@ -160,25 +161,60 @@ class Going(OfEditors):
         self.assertIn("no breakpoint", editor.type("breakpoints"))
         editor.ask("disconnect")
 
-    def test_what_no_breakpoint_does(self) -> None:
-        """It isn't verified, says why, and stops nothing."""
-        _, launch = self.hanoi()
-        editor = self.editor()
-        editor.enter(**launch, end=500)
-        reference, data = {"instructionReference": "0x200"}, {"dataId": f"core {ROUNDS:o}"}
-        for request, point in (
-            ("setFunctionBreakpoints", {"name": "1254"}),
-            ("setInstructionBreakpoints", reference),
-            ("setDataBreakpoints", data),
-        ):
-            for field, why in (("hitCondition", "no hits are counted"), ("logMessage", "logs")):
-                (shown,) = editor.ask(request, breakpoints=[{**point, field: "5"}])["breakpoints"]
-                self.assertFalse(shown["verified"])
-                self.assertTrue(shown["message"].startswith(f"{field}: "))
-                self.assertIn(why, shown["message"])
-            (shown,) = editor.ask(request, breakpoints=[{**point, field: ""}])["breakpoints"]
-            self.assertTrue(shown["verified"])
-            editor.ask(request, breakpoints=[])
+    def test_hits_that_count(self) -> None:
+        """Against all turns at the instruction, on the way there and back."""
+        explorer, launch = self.hanoi()
+        editor, end = self.editor(), 4_000
+        editor.enter(**launch, end=end)
+        turns = [it.turn for it in explorer.machine.turns(0, end) if it.pc == 0o1254]
+        self.assertGreater(len(turns), 6)
+        for hit, wanted in (("3", turns[2:3]), (">= 4", turns[3:]), ("% 2", turns[1::2])):
+            self.set(editor, "setFunctionBreakpoints", [{"name": "1254", "hitCondition": hit}])
+            self.walk(editor, wanted, "function breakpoint", end)
+        for wrong in ("x", "%0", "> -1"):
+            point = {"name": "1254", "hitCondition": wrong}
+            (shown,) = editor.ask("setFunctionBreakpoints", breakpoints=[point])["breakpoints"]
+            self.assertFalse(shown["verified"])
+            self.assertIn("hitCondition: ", shown["message"])
+        editor.ask("disconnect")
+
+    def test_messages_that_do_not_stop(self) -> None:
+        explorer, launch = self.hanoi()
+        editor, end = self.editor(), 4_000
+        editor.enter(**launch, end=end)
+        turns = [it.turn for it in explorer.machine.turns(0, end) if it.pc == 0o1254]
+        message = {"name": "1254", "logMessage": "{turn} has {R1} {{}}"}
+        self.set(editor, "setFunctionBreakpoints", [message])
+        self.assertEqual(editor.go("continue")[0], end)
+        said = "".join(it["body"]["output"] for it in editor.events if it["event"] == "output")
+        registers = explorer.machine.registers
+        wanted = "".join(f"{it} has {registers(it)['R1']:06o} {{}}\n" for it in turns)
+        self.assertEqual(said, wanted)
+        wrong = {"name": "1254", "logMessage": "{nothing}"}
+        (shown,) = editor.ask("setFunctionBreakpoints", breakpoints=[wrong])["breakpoints"]
+        self.assertIn("'nothing' is no register", shown["message"])
+        self.assertEqual(editor.go("reverseContinue"), (0, "entry"))
+        editor.ask("disconnect")
+
+    def test_a_register_on_the_bus_with_a_condition(self) -> None:
+        """The kernel's MOV #100,@#LKS at 1102 alone writes LKS."""
+        explorer, editor, end = self.ledger(), self.editor(), 12_000
+        editor.enter(**OF_LEDGER, end=end)
+        self.assertIsNone(editor.ask("dataBreakpointInfo", name="R0")["dataId"])
+        point = {"dataId": editor.ask("dataBreakpointInfo", name="lks")["dataId"]}
+        self.assertEqual(point["dataId"], "core 777546")
+        machine = explorer.machine
+        acts = (it for it in machine.turns(0, end) if (it.pc, it.act) == (0o1102, "instr"))
+        after = {it.turn: machine.registers(it.turn + 1).words for it in acts}
+        values = {it: {of[it] for of in after.values()} for it in ("R0", "R1", "R2", "R3", "USP")}
+        name = next(it for it in values if len(values[it]) > 1)
+        value = max(values[name])
+        wanted = [it for it, of in after.items() if of[name] == value]
+        self.set(editor, "setDataBreakpoints", [{**point, "condition": f"{name} = {value:o}"}])
+        for turn in wanted:
+            self.assertEqual(editor.go("continue"), (turn + 1, "data breakpoint"))
+        for turn in wanted[::-1]:
+            self.assertEqual(editor.go("reverseContinue"), (turn, "data breakpoint"))
         editor.ask("disconnect")
 
     def test_pause_is_heard_while_reads_are_looked_for(self) -> None:

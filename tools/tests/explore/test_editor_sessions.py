@@ -39,9 +39,9 @@ class Order(OfEditors):
         self.assertIn("before initialize", editor.refused("launch"))
         self.assertIn("pathFormat", editor.refused("initialize", pathFormat="uri"))
         capabilities = editor.ask("initialize", adapterID="nezdrab")
-        for name in ("StepBack", "ConditionalBreakpoints", "DataBreakpoints", "DisassembleRequest"):
+        named = "HitConditionalBreakpoints", "LogPoints", "StepBack", "ConditionalBreakpoints"
+        for name in (*named, "DataBreakpoints", "DisassembleRequest"):
             self.assertIs(capabilities[f"supports{name}"], True)
-        self.assertNotIn("supportsHitConditionalBreakpoints", capabilities)
         self.assertIn("already", editor.refused("initialize", adapterID="nezdrab"))
         for command in ("threads", "stackTrace", "setBreakpoints", "configurationDone", "pause"):
             self.assertIn("launch comes first", editor.refused(command, source={}), command)

@@ -6,11 +6,13 @@ from nezdrab.core.errors import ExploreError
 from nezdrab.core.language import FORMS, LISTS, SEARCHES
 from nezdrab.shell import prompt  # which adds the commands
 from nezdrab.shell.commands import COMMANDS
-from nezdrab.shell.foreign import FOREIGN, sentence
+from nezdrab.shell.foreign import FOREIGN, line_of, sentence
 from nezdrab.shell.habits import HABITS
+from nezdrab.shell.prompt import Prompt
 
 from .common import ROOT, Case
 from .machines import OnMachine
+from .terminal import AtTerminal
 from .test_calls import core
 
 # The first lines of somebody from gdb, and of somebody from SIMH, with the line that is named.
@@ -84,7 +86,7 @@ FIRST_LINES = (
     ("d sr 5", "at 3 switches 5"),
     ("g 1000", "until PC 1000"),
     ("br 1000", "break 1000"),
-    ("nobr", "breakpoints"),
+    ("nobr", "delete N"),
     ("sh dev", "devices 3"),
     ("show cpu", "setup"),
     ("show cpu history", "see 3 20"),
@@ -94,6 +96,7 @@ FIRST_LINES = (
     ("show history=5", "see 3 5"),
     ("history 5", "see 3 5"),
     ("goto 500", "show 500"),
+    ("jump 1000", "until PC 1000"),
     ("goto COUNT", "until PC COUNT"),
     ("500", "show 500"),
     ("commands 1", "display show"),
@@ -107,6 +110,7 @@ FIRST_LINES = (
     ('send "Y"', 'type "Y"'),
     ("reset", "console from 0"),
 )
+DONE = ("b 1000 if R0==5", "c", "s 3", "n", "bt", "x/4xw $sp", "d 1", "e 1000/10", "d 2000 5")
 EXAMINED = ("x/20i 1000", "x/20i $pc", "x/8o 1000", "x/8b 1000", "x/5c", "x/0", "p/d 1000", "ex/4")
 # What stands for the letters when a line is typed.
 TYPED = {
@@ -135,8 +139,10 @@ class Words(Case):
     def test_each_is_known_at_the_prompt(self) -> None:
         said = {it: text for it, text in self.sentences().items() if it not in COMMANDS}
         said["x/20i $pc"] = "`dump kernel 1000 20 instructions`"
-        written = self.explore("".join(f"{it}\n" for it in said)).splitlines()
-        self.assertEqual(written, [f"{it.split()[0]}: {text}" for it, text in said.items()])
+        written = self.explore("".join(f"{it}\n" for it in said), "--echo")
+        for word, text in said.items():
+            first = text if line_of(text, word) else f"{word.split()[0]}: {text}"
+            self.assertIn(f"explore> {word}\n{first}\n", written)
         self.assertEqual(" ".join(self.explore("help bt\n").split()), f"bt: {said['bt']}")
 
     def test_lines_of_explore_and_of_the_language_stay(self) -> None:
@@ -162,7 +168,8 @@ class Words(Case):
         written = self.explore("b rk0\nsymbols names\nb BEGIN\nb NOWHERE\n").splitlines()
         general = f"b: {sentence('b')}"
         self.assertEqual((written[0], written[-1]), (general, general))
-        self.assertEqual(written[-2], "b: `break BEGIN`, then `continue`")
+        self.assertEqual(written[-3], "`break BEGIN`, then `continue`")
+        self.assertEqual(written[-2], "breakpoint 1: break 1000 (BEGIN)")
 
     def test_capital_letters_count_as_small_ones(self) -> None:
         self.assertEqual(self.explore("DEP\n"), f"DEP: {sentence('dep')}\n")
@@ -225,13 +232,58 @@ class Leads(OnMachine):
     def test_each_line_that_a_first_line_names_is_taken(self) -> None:
         made, named = self.prompt(), []
         for line, first in FIRST_LINES:
-            with self.assertRaises(ExploreError, msg=line) as raised:
-                list(made.lines(line))
-            named += lines_of(str(raised.exception))
-            typed = lines_of(str(raised.exception))[0]
+            said = self.said(made, line)
+            named += lines_of(said)
+            typed = lines_of(said)[0]
             self.assertEqual(self.typed(typed), self.typed(first), line)
         self.check_taken(named)
+
+    def said(self, made: Prompt, line: str) -> str:
+        """The sentence about a line, whose own line isn't done here."""
+        try:
+            return next(iter(made.lines(line)))
+        except ExploreError as error:
+            return str(error)
+
+    def test_a_line_that_is_done_shows_what_its_own_line_shows(self) -> None:
+        for line in DONE:
+            (first,) = (own for it, own in FIRST_LINES if it == line)
+            own = line_of(self.said(self.prompt(), line), line.partition(" ")[2])
+            self.assertEqual(self.typed(own), self.typed(first), line)
+            _, *shown = self.prompt().lines(line)
+            self.assertEqual(shown, list(self.prompt().lines(own)), line)
+
+    def test_what_is_no_line_is_told(self) -> None:
+        """An expression, a count, a register that is set."""
+        told = ("p 5", "p $r0+1", "p &COUNT", "n 3", "c 5", "d pc 1000", "d r0 5", "run 1000")
+        for line in (*told, "jump 1000", "record", "boot rk0", "apropos x", "awatch *0x200"):
+            made = self.prompt()
+            before = list(made.explorer.machine.journal), made.explorer.turn
+            try:
+                list(made.lines(line))
+                self.assertEqual(line, "run 1000")
+            except ExploreError:
+                self.assertEqual((made.explorer.machine.journal, made.explorer.turn), before)
 
     def test_each_habit_has_a_first_line(self) -> None:
         shown = [HABITS.get(line.split()[0].lower()) for line, _ in FIRST_LINES]
         self.assertEqual([word for word, habit in HABITS.items() if habit not in shown], [])
+
+
+class Repeated(AtTerminal):
+    """An empty line at a terminal."""
+
+    def test_it_does_the_step_before_it_again(self) -> None:
+        self.begin("examples/who-wrote-this-word.session")
+        for line, turn in (("s", 1), ("", 2), ("", 3), ("show 9", 9), ("back 2", 7), ("", 5)):
+            self.type(f"{line}\n")
+            self.wait_for(f"before turn {turn}: ".encode())
+        self.type("b *0x220\n")
+        self.wait_for(b"breakpoint 1: break 1040")
+        self.type("\n")
+        self.type("\n")
+        self.type("c\n")
+        self.wait_for(b"        19  kernel  001040")
+        self.type("regs 0\n")
+        self.wait_for(b"R0 000000")
+        self.end()

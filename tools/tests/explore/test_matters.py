@@ -58,9 +58,10 @@ class BruteForce(OnMachine):
         return self.command("")[2]
 
     def nearest(
-        self, past: Sequence[str], event: Event, way: Way, most: int, question: str
+        self, past: Sequence[str], event: Event, way: Way, most: int, question: str, until: str = ""
     ) -> Optional[Change]:
-        """The nearest move that changes the reply, by all of them, or none."""
+        """The nearest move that changes the reply, or makes it that one, by all of them, or
+        none."""
         same = self.reply(past, "", question)
         sign = {Way.DROPPED: 0, Way.EARLIER: -1, Way.LATER: 1}[way]
         for shift in range(1, most + 1) if sign else (0,):
@@ -69,7 +70,7 @@ class BruteForce(OnMachine):
                 return None
             edit = f"alter {event.number} {turn} {event.text}" if sign else f"drop {event.number}"
             reply = self.reply(past, edit, question)
-            if reply != same:
+            if reply == until if until else reply != same:
                 return Change(shift, reply)
         return None
 
@@ -95,6 +96,27 @@ class BruteForce(OnMachine):
                 room = event.turn if way is Way.EARLIER else LAST_TURN - event.turn
                 self.assertEqual(found.same_to, min(most, room), (seed, event, way, question))
         return sum(it.change is not None for it in results.tried.values())
+
+    def check_until(self, seed: int, most: int) -> int:
+        """The same for one of the replies that moves make. Returns how many moves make it."""
+        chance = random.Random(seed)
+        past = self.past(chance)
+        explorer = self.explorer(edits=past)
+        question = chance.choice(QUESTIONS).format(chance.randrange(15, 60))
+        changes = self.results(explorer, f"within {most}: {question}").tried.values()
+        replies = sorted({it.change.reply for it in changes if it.change})
+        if not replies:
+            return 0
+        until = chance.choice(replies)
+        results = self.results(explorer, f"within {most}: {question} until {until}")
+        for event, way in results.tried:
+            wanted = self.nearest(past, event, way, most, question, until)
+            found = results.of(event, way).change
+            self.assertEqual(found, wanted, (seed, event, way, question, until))
+        return sum(it.change is not None for it in results.tried.values())
+
+    def test_the_nearest_moves_that_make_a_reply(self) -> None:
+        self.assertGreater(sum(self.check_until(seed, 5) for seed in range(6, 10)), 4)
 
     def test_the_nearest_moves(self) -> None:
         self.assertGreater(sum(self.check(seed, 5) for seed in range(8)), 8)
@@ -154,6 +176,24 @@ class InLedger(OnMachine):
             "2 events; moves that double were tried, and halves: "
             "a nearer one, or the only one, may be missed",
         )
+
+    def test_the_nearest_change_that_makes_a_reply(self) -> None:
+        session, line = f"examples/{LEDGER}", "14 15 within 200: dsk 138071 0 1 until 140"
+        lines = f"matters {line}\nmatters -o kept {line}\nmatters --gather kept\n"
+        lines += f"matters {line[:-3]}132\nmatters 15 within 9: dsk 138071 0 1 until 136\n"
+        written = self.explore(lines, session).splitlines()
+        wanted = [
+            "matters: dsk 138071 0 1    dsk 000132    until 140",
+            TABLE[1],
+            "   14  126830  key 62  no       by 180: 000140  by 91:  000140",
+            "   15  126967  key 66  no       no (to 200)     by 198: 000140",
+            "2 events; the nearest change found: alter 14 126921 key 62",
+        ]
+        self.assertEqual(written[:15], 3 * wanted)
+        self.assertEqual(written[15], "matters: the reply is that without a move: dsk 000132")
+        self.assertEqual(written[-1], "1 event; the nearest change found: none")
+        edited = "alter 14 126921 key 62\ndsk 138071 0 1\n"
+        self.assertIn("dsk 000140\n", self.explore(edited, session))
 
     def test_parts_are_gathered(self) -> None:
         """Each command by itself, as GNU parallel runs them. Event 3 was dropped, so that numbers

@@ -21,6 +21,7 @@ from .machines import OnMachine
 from .pages import held_in
 
 LEDGER = "examples/ledger/ledger.session"
+TITLE = "# story title A recorded day of a small bank's computer"
 FORM = "the form is: page FILE [to N]"
 
 
@@ -57,7 +58,9 @@ class Pages(PageCase):
         edits = "alter 15 127165 key 66\ndrop 1\ncore 2000 7\ndelay disk 9\ntape 1 2\n"
         found = self.page(edits, LEDGER)
         self.assertEqual((found.name, found.lines[-1]), ("ledger.session", "regs 238614"))
-        self.assertEqual(found.lines[2:4], ["# name disk 0 the ledger", "tape 1 2"])
+        told = [it for it in found.lines if it.startswith("#")]
+        self.assertEqual(told[2:4], ["# name disk 0 the ledger", TITLE])
+        self.assertEqual(found.lines[len(told)], "tape 1 2")
         self.assertLessEqual({"delay disk 9", "core 2000 7"}, set(found.lines))
         events = [it for it in found.lines if it.startswith("at ")]
         self.assertEqual(events, sorted(events, key=lambda it: int(it.split()[1])))

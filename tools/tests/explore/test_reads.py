@@ -6,12 +6,12 @@ from unittest import mock
 
 from checks.flows import each_flow
 from checks.word_reads import READING, first_reads_in
-from nezdrab.analysis.cells import IO_PAGE
 from nezdrab.analysis.explorer import Explorer
 from nezdrab.analysis.finder import Finder
 from nezdrab.analysis.transfers import functions_done, with_stays, words_of_core
 from nezdrab.core.engine import MOST_WORDS, Machine, Start
 from nezdrab.core.errors import ExploreError
+from nezdrab.core.hardware import IO_PAGE
 from nezdrab.core.replies import WordRead
 from nezdrab.shell.commands import COMMANDS
 

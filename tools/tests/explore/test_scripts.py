@@ -4,7 +4,7 @@ from typing import Callable
 
 from .common import ROOT, Case
 
-FOLDERS = [Path(__file__).parent, *(ROOT / "examples" / it for it in ("ledger", "media"))]
+FOLDERS = [Path(__file__).parent, *(ROOT / "examples" / it for it in ("forth", "ledger", "media"))]
 
 
 class Scripts(Case):

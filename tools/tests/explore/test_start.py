@@ -77,9 +77,9 @@ class Commands(Case):
             "def show():\n"
             "    read = [it for it in commands.MODULES if f'nezdrab.{it}' in sys.modules]\n"
             "    print(*read)\n"
-            "show()\ncommands.COMMANDS['log']\nshow()\n"
+            "show()\ncommands.COMMANDS['console']\nshow()\n"
         )
         command, path = [sys.executable, "-S", "-B", "-c", code], str(ROOT / "src")
         ran = subprocess.run(command, env={"PYTHONPATH": path}, capture_output=True, text=True)
         first = "shell.defining shell.display"
-        self.assertEqual((ran.stdout, ran.stderr), (f"{first}\n{first} shell.log\n", ""))
+        self.assertEqual((ran.stdout, ran.stderr), (f"{first}\nshell.console {first}\n", ""))

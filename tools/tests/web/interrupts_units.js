@@ -1,6 +1,6 @@
 // Tests of how the timeline's interrupts are found. Each throws if something isn't so.
 
-import { notesOf } from "/notes.js";
+import { sampledIn } from "/sampled.js";
 import { Past } from "/past.js";
 import { PictureMaker } from "/picture.js";
 import { DEVICE_VECTORS, octal } from "/replies.js";
@@ -58,7 +58,7 @@ export async function test_interrupts_that_are_few_are_all_found() {
   const picture = await pictureOf(run, 200_000);
   equal(picture.interrupts.map(it => it.turn), [5, 99, 100, 150_000, 199_999]);
   equal([picture.sampledVectors, trails()], [[], []]);
-  equal(notesOf(picture).some(it => it.includes("interrupts")), false);
+  equal(sampledIn(picture).some(it => it.includes("interrupts")), false);
 }
 
 export async function test_interrupts_that_are_too_many_are_sampled() {
@@ -67,11 +67,11 @@ export async function test_interrupts_that_are_too_many_are_sampled() {
   // each step has 200 turns: turn 150 is in none of the trails
   equal([lookLike(picture, KEYBOARD), lookLike(picture, PRINTER).length], [[150], 1_000]);
   equal(picture.sampledVectors, [PRINTER]);
-  equal(notesOf(picture).includes(
+  equal(sampledIn(picture).includes(
     "Sampled in the first 64 of each 200 turns: interrupts by printer."), true);
   const other = await pictureOf(run, 200_000, { listed: [KEYBOARD] });
   equal([lookLike(other, KEYBOARD), other.sampledVectors], [[], [KEYBOARD, PRINTER]]);
-  equal(notesOf(picture, other).at(-1),
+  equal(sampledIn(picture, other).at(-1),
     "Of the old past sampled: interrupts by keyboard, printer.");
 }
 

@@ -6,7 +6,6 @@ import { editBetween, sameFrom } from "/fades.js";
 import { sumOf } from "/kept.js";
 import { PAST_LINES, Past, differenceOf, eventLabel, eventsIn } from "/past.js";
 import { lastTurnOf } from "/session.js";
-import { isStory } from "/story.js";
 import { itemsOf, switchItem } from "/switching.js";
 import { NotingRun, SETUP } from "/units.js";
 
@@ -202,7 +201,6 @@ export function test_sums_of_sessions() {
   const past = pastOf({ patches: numbers.map(it => `core ${(2 * it).toString(8)} 000001`),
     events: numbers.map(it => `${it + 1} ${it} tick`) });
   equal([past.script.length, past.patches.size], [65_536, 65_536]);
-  equal(isStory({ arguments: [] }, past), false);
 }
 
 export function test_events_in_some_turns() {

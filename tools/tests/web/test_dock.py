@@ -219,7 +219,7 @@ class Next(MadeCase):
         self.browser.drag(KEY, 110)
         self.balance(SAFE)
         self.browser.wait(offered)
-        self.browser.click("#next")
+        self.browser.click("#next button")
         self.wait_answer()
         self.wait_text("#reasons", "Made of events")
         asked = self.browser.value("document.querySelector('#why-word').value")

@@ -42,11 +42,11 @@ class TheLostDeposit(PageCase):
         self.browser.drag(KEY, 110, is_let_go=False)
         self.balance(SAFE)
         self.assertEqual(self.edits(), [])
-        self.assertIn("lanes are those before", self.browser.text("#notes"))
+        self.assertIn("lanes are those before", self.browser.text("#sampled"))
         self.browser.key("Escape")
         self.balance(LOST)
         self.wait_still()
-        self.assertNotIn("lanes", self.browser.text("#notes"))
+        self.assertNotIn("lanes", self.browser.text("#sampled"))
         self.assertEqual(self.edits(), [])
 
     def test_undo_and_redo(self) -> None:
@@ -194,13 +194,12 @@ class Lines(PageCase):
     def test_all_edits_are_undone_and_made_again(self) -> None:
         """No line takes back a tape, or an event that was taken out."""
         count = "document.querySelectorAll('#edits li').length === {}"
-        first = self.browser.text("#text")
         number = self.type_line("at 5 key 101").split()[-1]
         lines = ["disk 0 200", "tape 101", "core 1000 0", f"alter {number} 6 key 102", "drop 3"]
         for line in [*lines, "delay disk 300"]:
             self.type_line(line)
         self.browser.wait(count.format(7))
-        self.browser.wait(f"document.querySelector('#text').innerText !== {first!r}")
+        self.wait_still()
         asked = "regs 238614"
         edited = self.type_line(asked)
         for left in range(6, -1, -1):

@@ -67,6 +67,27 @@ class Examples(PageCase):
         self.wait_text("#balance", "137")
         self.assertTrue(self.browser.value("document.querySelector('#own').hidden"))
 
+    def test_a_forth_is_sat_at(self) -> None:
+        """It boots at the page's console, and takes lines there."""
+        self.open_example("forth")
+        self.open_tab("console")
+        self.browser.click("#terminal-run")
+        self.wait_text("#terminal", "ok")
+        self.browser.type("1 2 + .")
+        self.browser.key("Enter")
+        self.wait_text("#terminal", "1 2 + . 3  ok")
+
+    def test_a_note_is_lost(self) -> None:
+        """The words that the example's listing and its blocks define are known by their names."""
+        self.open_example("note")
+        self.wait_text("#text", "CALL ADA AT NOON ok")
+        self.assertIn("dsk 2450000 25000 1: dsk 000000", self.type_line("dsk 2450000 25000 1"))
+        self.fill("#turn", "2133530")
+        self.browser.key("Enter")
+        if not self.browser.value("document.querySelector('#calls').open"):
+            self.browser.click("#calls summary")
+        self.wait_text("#call-list", "COUNTING")
+
     def test_programs_are_what_their_files_hold(self) -> None:
         for key, placed, start, after in (
             ("tape", bytes_of_tape((EXAMPLES / "media/hello.lda").read_bytes()), "1000", "TEXT"),

@@ -66,7 +66,7 @@ class Stopping(PageCase):
         self.go(FAR)
         self.browser.wait("!document.querySelector('#work').hidden")
         self.assertEqual(self.marks(), [f"still before turn {CURSOR}"] * 6)
-        self.wait_text("#notes", "hatched isn't known yet")
+        self.wait_text("#sampled", "hatched isn't known yet")
         self.type_line("at 1000 tick")
         old = f"still before turn {CURSOR}, from before the last edit"
         self.assertEqual(self.marks(), [old] * 6)
@@ -76,7 +76,7 @@ class Stopping(PageCase):
         self.assertEqual(self.browser.value("document.querySelector('#turn').value"), str(CURSOR))
         self.wait_text("#difference", "wasn't compared")
         self.wait_still()
-        self.assertNotIn("hatched", self.browser.text("#notes"))
+        self.assertNotIn("hatched", self.browser.text("#sampled"))
 
 
 class Texts(PageCase):
@@ -110,13 +110,15 @@ class Texts(PageCase):
         self.assertEqual(self.browser.value("document.querySelectorAll('#text ins').length"), 0)
 
     def test_the_console_keeps_no_text_that_was_undone(self) -> None:
-        self.type_line("at 5 switches 1")
-        self.run_on()
-        self.assertIn("AAAA", self.browser.text("#terminal"))
+        self.type_line("core 1002 102")
+        self.browser.click("#terminal-run")
+        self.wait_text("#terminal", "BBBB")
+        self.browser.value("document.activeElement.blur()")
+        self.wait_still()
         self.browser.click("#undo")
         self.browser.wait("document.querySelectorAll('#edits li').length === 0")
-        self.wait_still()
-        self.assertEqual(self.browser.text("#terminal"), "")
+        self.wait_text("#terminal", "AAAA")
+        self.assertNotIn("B", self.browser.text("#terminal"))
 
 
 class Comparing(PageCase):
@@ -144,11 +146,11 @@ class Story(PageCase):
         )
         self.type_line("alter 15 127165 key 66")
         self.wait_text("#verdict", "nothing is lost")
-        self.assertEqual(self.browser.value(f"{verdicts}[0]"), "the day runs again")
+        self.assertEqual(self.browser.value(f"{verdicts}[0]"), "the machine runs again")
 
     def test_other_deposits_have_no_verdict(self) -> None:
         self.type_line("disk 0 200")
-        self.wait_text("#verdict", "not of the same day")
+        self.wait_text("#verdict", "there are other edits")
 
 
 class Interrupts(PageCase):
@@ -160,8 +162,8 @@ class Interrupts(PageCase):
         wanted = re.findall(r"^(\d+) [0-7]{6} irq ([0-7]{3})$", said, re.MULTILINE)
         self.wait_still()
         self.browser.click('[data-key="0"]')
-        self.wait_text("#notes", "PC and mode: the first of each ")
-        self.assertNotIn("interrupts", self.browser.text("#notes"))
+        self.wait_text("#sampled", "PC and mode: the first of each ")
+        self.assertNotIn("interrupts", self.browser.text("#sampled"))
         self.browser.click("#sight summary")
         self.wait_text("#sight", f"{len(wanted) - 100} rows of 'interrupt'")
         rows = self.browser.value(

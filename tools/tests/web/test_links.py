@@ -61,6 +61,46 @@ class Links(LinksCase):
             self.browser.wait(f"document.querySelectorAll('#edits > li').length === {left}")
         self.balance(LOST)
 
+    def test_a_link_holds_what_is_shown(self) -> None:
+        """The watch list, notes, and the past that is compared with."""
+        def shown() -> list[str]:
+            self.balance(SAFE)
+            self.open_tab("past")
+            self.wait_text("#difference", "Drive 0")
+            self.wait_text("#words", "QUEUE")
+            self.wait_still()
+            texts = "['words', 'note-list', 'difference', 'legend-old', 'edits', 'steps']"
+            found = f"{texts}.map(it => document.getElementById(it).textContent)"
+            return list(self.browser.value(found))
+
+        self.type_line("disk 0 101")
+        self.fill("#keep-name", "other")
+        self.browser.key("Enter")
+        self.wait_text("#reply", "Kept as other")
+        self.browser.click("#undo")
+        self.type_line(KEEPS)
+        for name in ("2000", "R3"):
+            self.fill("#watch", name)
+            self.browser.key("Enter")
+        self.fill("#note-text", "caf\u00e9 <b>")
+        self.browser.key("Enter")
+        self.browser.value(
+            "(it => { it.selectedIndex = 1; it.dispatchEvent(new Event('change')); })"
+            "(document.querySelector('#compared-with'))"
+        )
+        self.wait_text("#legend-old", "in other")
+        before = shown()
+        self.assertIn("caf\u00e9 <b>", before[1])
+        link = self.link()
+        self.browser.value("localStorage.clear(); sessionStorage.clear()")
+        self.browser.open(link)
+        self.assertEqual(shown(), before)
+        self.assertNotIn("shown=", self.browser.value("location.hash"))
+        cut = link.partition("#")[2].replace("&shown=", "&shown=0")
+        self.browser.open(self.address)
+        self.wait_still()
+        self.follow(cut, "it was cut or changed on its way")
+
     def test_own_edits_are_switched_off_by_a_link(self) -> None:
         self.type_line("alter 15 127165 key 66")
         self.wait_still()

@@ -14,7 +14,7 @@ WORKS = (None, "0 of 1 edits", "999999999 of 1000000000 turns")
 VERDICTS = (
     "",
     "\u2713 nothing is lost: the rest came later",
-    "\u2717 the last balance lacks 16; move the key right",
+    "\u2717 a deposit of 6 is lost; it should be 145; move it right",
 )
 # Where the button that stops the work is, and the timeline, whatever of these is shown.
 PLACES = """((works, verdicts) => {
@@ -75,7 +75,7 @@ class Tour(PageCase):
         self.balance(SAFE)
         self.browser.value("scrollTo(0, 0)")
         self.shot(f"{name}-dragged")
-        self.browser.click("#next")
+        self.browser.click("#next button")
         self.wait_text("#reasons", "Made of events")
         self.shot(f"{name}-asked")
         for tab in TABS:
@@ -83,7 +83,7 @@ class Tour(PageCase):
             self.shot(f"{name}-{tab}")
         self.browser.value("scrollTo(0, 0)")
         self.browser.value("document.querySelector('[data-key=\"0\"]').click()")
-        self.wait_text("#notes", "the first of each")
+        self.wait_text("#sampled", "the first of each")
         self.shot(f"{name}-whole")
 
     def test_the_picture_of_the_readme(self) -> None:

@@ -78,7 +78,7 @@ class Views(PageCase):
         self.assertGreater(self.browser.value(f"{LOOKED}({FIRST + SPAN / 2})"), 100)
         self.assertEqual(self.browser.value(f"{LOOKED}(60000)"), 0)
         self.browser.click('[data-key="0"]')
-        self.wait_text("#notes", "PC and mode: the first of each ")
+        self.wait_text("#sampled", "PC and mode: the first of each ")
         self.wait_still()
         self.browser.wait(f"{LOOKED}(60000) > 0")
         samples, whole = (self.browser.value(f"{LOOKED}({it})") for it in (60_000, 127_600))

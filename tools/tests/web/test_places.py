@@ -41,7 +41,7 @@ class Steps(PageCase):
         self.browser.key("0")
         self.browser.wait(f"{SPAN} === 238614")
         self.wait_still()
-        self.wait_text("#notes", "PC and mode: the first of each ")
+        self.wait_text("#sampled", "PC and mode: the first of each ")
 
     def test_the_wheel_zooms_about_the_pointer(self) -> None:
         x, y = self.browser.middle("#timeline canvas")

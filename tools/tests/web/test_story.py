@@ -2,7 +2,7 @@
 import re
 
 from .browser import ALT, SHIFT
-from .common import KEY, LOST, ROOT, SAFE, PageCase, ledger_lines, replies_of
+from .common import KEY, LOST, SAFE, PageCase, ledger_lines, replies_of
 
 PAST = ledger_lines()[:-2]
 END, KEY_TURN = 238_614, 126_967
@@ -34,11 +34,9 @@ def balances(turns: list[int]) -> dict[int, str]:
 
 
 def story() -> dict[str, int]:
-    """Where the page says that the event is safe, and the tick before that."""
-    text = (ROOT / "web" / "story.js").read_text()
-    found = re.search(r"safe: \{([^}]*)\}", text)
-    assert found
-    return {name: int(it.replace("_", "")) for name, it in re.findall(r"(\w+): ([\d_]+)", found[1])}
+    """Where the session says that the event is safe, and the tick before that."""
+    found = [it.split()[3:] for it in ledger_lines() if it.startswith("# story target ")]
+    return dict(zip(("event", "from", "to", "tick"), map(int, found[0])))
 
 
 class Said(PageCase):
@@ -140,25 +138,25 @@ class Carried(PageCase):
         self.assertGreater(shown, 2)
         self.browser.key("Escape")
 
-    def test_what_is_lost_is_what_the_last_balance_lacks(self) -> None:
-        """Moved past the fourth `=` the deposit is in the fifth balance. Of two deposits that are
-        lost both are told, also if the fourth balance is as it should be."""
+    def test_what_comes_of_each_past(self) -> None:
+        """Moved past the fourth `=` the deposit is in the fifth balance. The last balance is told,
+        if it is another one than the session says."""
         safe = story()
-        right, far = "lacks 6; move the key right", "too far, go back"
+        lost = "a deposit of 6 is lost; it should be 145; "
         for line, said in (
-            (f"alter 15 {safe['from'] - 1} key 66", right),
-            (f"alter 15 {KEY_TURN - 60} key 66", right),
-            (f"alter 15 {safe['to'] + 1} key 66", far),
+            (f"alter 15 {safe['from'] - 1} key 66", f"{lost}move it right"),
+            (f"alter 15 {KEY_TURN - 60} key 66", f"{lost}move it right"),
             ("alter 15 150000 key 66", "nothing is lost: the rest came later"),
             (f"alter 15 {safe['from']} key 66", "\u2713 nothing is lost"),
-            ("alter 19 155337 key 64", "lacks 4; try another turn"),
-            (f"alter 15 {KEY_TURN} key 66", "lacks 12; try another turn"),
+            ("alter 19 155337 key 64", "the last balance is 172, not 176; try another turn"),
+            (f"alter 15 {KEY_TURN} key 66", "the last balance is 164, not 176; move it right"),
         ):
             self.type_line(line)
             self.wait_text("#verdict", said)
             last = replies_of([*PAST, *self.edits(), f"dsk {END} 0 1"])[-1].split()[-1]
-            lacks = re.search("lacks ([0-7]+)", self.browser.text("#verdict"))
-            self.assertEqual(int(lacks[1], 8) if lacks else 0, 0o176 - int(last, 8))
+            told = re.search("last balance is ([0-7]+)", self.browser.text("#verdict"))
+            wanted = 0o170 if lost in said else 0o176
+            self.assertEqual(int(told[1], 8) if told else wanted, int(last, 8), line)
 
     def test_a_finger_at_400_pixels(self) -> None:
         """The way to the target is short, and all of it is in sight, with the balance."""
@@ -210,20 +208,15 @@ class Happened(PageCase):
             ],
         )
 
-    def test_the_heading_goes_with_them(self) -> None:
-        is_hidden = "document.querySelector('#happened').hidden"
+    def test_in_another_past_the_heading_says_so(self) -> None:
         self.steps()
-        self.assertFalse(self.browser.value(is_hidden))
-        self.browser.look_at("#terminal")
-        self.browser.value("document.querySelector('#terminal').focus()")
-        self.browser.key("Enter")
-        self.wait_text("#terminal-status", "before turn ")
-        self.browser.type("1")
-        self.browser.wait("document.querySelectorAll('#edits li').length")
-        self.browser.wait(is_hidden)
-        self.browser.key("Tab")
-        self.wait_still()
-        self.assertTrue(self.browser.value(is_hidden))
+        self.assertEqual(self.browser.text("#happened-title"), "What happened")
+        self.type_line("alter 15 127165 key 66")
+        self.balance(SAFE)
+        self.wait_text("#happened-title", "In another past")
+        self.browser.click("#undo")
+        self.browser.wait("document.querySelector('#happened-title').textContent"
+                          " === 'What happened'")
 
     def test_a_step_is_a_place(self) -> None:
         turn = int(self.steps()[1].split()[-1])
@@ -232,14 +225,63 @@ class Happened(PageCase):
         self.assertEqual(self.turn(), turn)
         self.wait_text("#registers-turn", f"before turn {turn}")
 
-    def test_they_are_of_the_past_as_it_is(self) -> None:
-        self.steps()
-        self.type_line("alter 15 127165 key 66")
-        self.balance(SAFE)
-        said = "; ".join(self.steps())
-        self.assertNotIn("over it", said)
-        self.assertIn("wrote 140", said)
-        self.type_line("delay clock 900")
-        self.browser.wait("document.querySelectorAll('#steps li').length === 0")
+
+class Data(PageCase):
+    """A story is data of the session: any session may tell one."""
+
+    LINES = (
+        "# story title Caf\u00e9 <b>day</b>",
+        "# story step *Strike [A]* now",
+        "# story turns 0 60 7",
+        "# story ask mem 40 2000 1",
+        "# story shows 1 The word",
+        "# story verdict good 1 5: it is {1}",
+        "# story verdict bad 1 any: it is {1}, not 5",
+        "# name core 2000 the word",
+        "# note 9 here",
+        "core 1000 12737",
+        "core 1002 5",
+        "core 1004 2000",
+        "regs 40",
+    )
+
+    def open_lines(self, *more: str) -> str:
+        path = self.folder() / "day.session"
+        path.write_text("\n".join((*self.LINES, *more)) + "\n")
+        self.give(path)
         self.wait_still()
-        self.assertEqual(self.browser.value(self.STEPS), [])
+        return self.browser.text("#reply")
+
+    def test_what_it_shows(self) -> None:
+        self.open_lines()
+        self.assertEqual(self.browser.text("#story-title"), "Caf\u00e9 <b>day</b>")
+        marked = self.browser.value("document.querySelector('#sentences').innerHTML")
+        self.assertEqual(marked, "<li><strong>Strike <kbd>A</kbd></strong> now</li>")
+        self.assertEqual(self.turn(), 7)
+        self.assertEqual(self.browser.text("#balance-label"), "The word")
+        self.balance("5")
+        self.assertEqual(self.browser.text("#verdict"), "\u2713 it is 5")
+        self.assertIn("the word (core 002000)", self.browser.text("#words"))
+        self.assertIn("here", self.browser.text("#steps"))
+        self.type_line("core 1002 7")
+        self.wait_text("#verdict", "there are other edits: see the list")
+
+    def test_it_is_saved_with_its_session(self) -> None:
+        self.open_lines()
+        lines = self.saved("#save").read_text().splitlines()
+        told = [it for it in lines if it.startswith(("# story", "# name", "# note"))]
+        self.assertEqual(sorted(told), sorted(it for it in self.LINES if it.startswith("#")))
+
+    def test_a_line_that_cannot_be_read_is_told(self) -> None:
+        for line in ("# story turns 5", "# story verdict fine 1 5: x", "# story colour red"):
+            self.assertIn(f"can't be read: {line}.", self.open_lines(line))
+        self.balance("5")
+
+    def test_it_asks_no_edit_and_no_turn_beyond_the_session(self) -> None:
+        for line in ("at 5 key 101", "core 1002 7", "regs 1000000000"):
+            said = self.open_lines(f"# story ask {line}")
+            self.assertIn(f"can't be read: # story ask {line}.", said)
+            self.assertTrue(self.browser.value("document.querySelector('#outcome').hidden"))
+            self.wait_still()
+            self.assertEqual(self.type_line("events"), "events: events 0")
+            self.assertIn("mem 000005", self.type_line("mem 40 2000 1"))

@@ -5,7 +5,7 @@ import { marked } from "/differences.js";
 import { eventOfForm, eventsNear } from "/events.js";
 import { LanesDrawing, View, lanesOf, ticksOf } from "/lanes.js";
 import { linesOfNames, namesOfSession } from "/names.js";
-import { notesOf } from "/notes.js";
+import { sampledIn } from "/sampled.js";
 import { optionLines, optionText, shellWords } from "/options.js";
 import { PAST_LINES, isEdit } from "/past.js";
 import { fragmentOf, placeOf } from "/place.js";
@@ -18,7 +18,7 @@ import {
 import { Priority, Run } from "/run.js";
 import { boundedRows, rowsOf } from "/sight.js";
 import { kindOfFile, symbolNear, withFile } from "/session.js";
-import { balancesIn, verdictOf } from "/story.js";
+import { storyOf, verdictOf } from "/story.js";
 import { symbolsOfSession } from "/symbols.js";
 import { runsOf, spreadTurns } from "/sweep.js";
 
@@ -120,17 +120,17 @@ export function test_axis() {
   equal(ticksOf(near, 8), [7, 8]);
 }
 
-export function test_notes_say_what_is_sampled() {
+export function test_what_is_sampled_is_said() {
   const picture = {
     step: 100, sampledVectors: DEVICE_VECTORS, disk: { isWhole: false }, text: { each: 3 },
     words: [{ name: "core 002000", values: [], isWhole: false }],
   };
-  equal(notesOf(picture).length, 5);
+  equal(sampledIn(picture).length, 5);
   const words = [{ ...picture.words[0], name: "core 004000" }];
-  equal(notesOf(picture, { words }).at(-1), "Of the old past sampled: core 004000.");
+  equal(sampledIn(picture, { words }).at(-1), "Of the old past sampled: core 004000.");
   const whole = { ...picture, step: 1, sampledVectors: [], disk: { isWhole: true } };
   Object.assign(whole, { text: { each: 1 }, words: [] });
-  equal(notesOf(whole), ["Each turn in sight is looked at; nothing is sampled."]);
+  equal(sampledIn(whole), ["Each turn in sight is looked at; nothing is sampled."]);
 }
 
 export function test_the_table_says_what_it_leaves_out() {
@@ -159,25 +159,31 @@ export function test_differences_are_marked() {
   equal(pieces.map(it => it.textContent ?? it).join("|"), "a\n|B6 =|137|145||\n|");
 }
 
-export function test_the_balances() {
-  const text = "=000100\nA2 =000110\n=000124\nB5 =000137\n=000153\n=000170\n", isMoved = true;
-  equal([balancesIn(text)[3], balancesIn("=00010")], ["137", []]);
-  const told = (now, past = { isMoved }) => {
-    const { balance, verdict, look } = verdictOf(now, past);
-    return [balance, verdict, look].join(" ").trim();
+export function test_the_verdicts_of_a_story() {
+  const { story, wrong } = storyOf({ lines: ["# story title it", "# story values =",
+    "# story shows 2 The second", "# story target 3 100 200 90",
+    "# story verdict good 2 5 3 7: all is there", "# story verdict good 3 7: it came later",
+    "# story verdict bad 3 none: not printed", "# story verdict bad 1 any: it is {3}, not 7",
+    "# story verdict ugly 1 2: x", "# story turns 1 0 5", "# story next why nothing at 5: Why",
+    "# story of a day"] });
+  equal(wrong.length, 4);
+  const told = (text, past) => {
+    const { value, verdict, look, word } = verdictOf(story, text, past);
+    return [value, verdict, look, word];
   };
-  const safe = text.replace("137", "145"), later = text.replace("170", "176");
-  equal([told(text, { isMoved: false }), told(safe), told(later.replace("137", "145")), told(later),
-    told(later, { isMoved, hasOthers: true }), told(later.slice(0, -9)), told("=000100")],
-  ["137 \u2717 a deposit of 6 is lost; it should be 145 bad",
-    "145 \u2717 the last balance lacks 6; try another turn bad", "145 \u2713 nothing is lost good",
-    "137 \u2713 nothing is lost: the rest came later good",
-    "137 not of the same day: see the edits", "137 the last balance isn't printed",
-    "none not printed bad"]);
-  const target = { from: 100, to: 200 };
-  const ways = [99, 100, 200, 201].map(turn => verdictOf(text, { isMoved, turn, target }).verdict);
-  equal(ways.map(it => it.split("; ")[1]),
-    ["move the key right", "try another turn", "try another turn", "too far, go back"]);
+  const text = "text 30:=000001\\012=000005\\012=000007";
+  equal(told(text), ["5", "\u2713 all is there", "good", "all is there"]);
+  equal(told(text.replace("005", "004")), ["4", "\u2713 it came later", "good", "it came later"]);
+  equal(told(text.slice(0, -1)), ["5", "\u2717 not printed", "bad", ""]);
+  equal(told(text, { hasOthers: true }), ["5", "there are other edits: see the list", "", ""]);
+  equal(told("refused 7"), ["none", "\u2717 not printed", "bad", ""]);
+  const lost = text.replace("007", "006");
+  equal([99, 100, 200, 201].map(turn => told(lost, { isMoved: true, turn }).slice(1)),
+    [["\u2717 it is 6, not 7; move it right", "bad", "to the right"],
+      ["\u2717 it is 6, not 7; try another turn", "bad", "no"],
+      ["\u2717 it is 6, not 7; try another turn", "bad", "no"],
+      ["\u2717 it is 6, not 7; too far, go back", "bad", "too far"]]);
+  equal(storyOf({ lines: ["core 1000 5"] }), { story: null, wrong: [] });
 }
 
 export function test_words_are_named_by_comments() {
