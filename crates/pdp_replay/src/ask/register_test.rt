@@ -10,7 +10,6 @@ ghost use Rattle.pdp_replay.specs.Ask.RegisterTests.{unmet_test_if_there, word_p
 use crate::ask::turn_condition::{Comparand, Quantity, Relation, TurnCondition, TurnConditions};
 use pdp_cpu::{BurstEnd, Computer, PagedMachine};
 use pdp_operand::{Processor, RegisterId};
-use pdp_quick::counter_of;
 use pdp_store::Store;
 
 /// What a condition asks of a word.
@@ -51,8 +50,10 @@ impl BurstEnd for RegisterTest {
     ghost Fits = { λ _ _. Unit {0} };
 
     #[inline(always)]
-    fn passes<S: Store, D: Store>(&self, computer: &Computer<S, D>, number: usize) -> bool {
-        !self.test.passes(word_apart(&computer.processor, counter_of(number), self.register))
+    fn passes<S: Store, D: Store>(&self, computer: &Computer<S, D>, counter: u16) -> bool {
+        !self
+            .test
+            .passes(word_apart(&computer.processor, counter, self.register))
     }
 }
 
