@@ -8,7 +8,7 @@ from ..core.language import explanation
 from ..core.past import Event
 from ..core.values import dataclass, field
 from .sought_reply import in_one_line, is_reply
-from .unnoticed import Unnoticed
+from .unnoticed import unnoticed
 
 FIRST_BLOCK, LARGEST_BLOCK = 16, 256  # moves that are tried in one task
 LOOKED_AT_ONCE = 1_024  # moves whose turns are looked at together
@@ -152,7 +152,6 @@ class Trial:
 
     def __init__(self, machine: Machine, moves: Moves):
         self.moves, self.version = moves, machine.setup.version
-        self.unnoticed = Unnoticed(machine)
         self.looked_at: dict[tuple[Event, Way, int], frozenset[int]] = {}
         self.of_turns: dict[int, list[Event]] = {}
         for event in machine.script:
@@ -229,7 +228,7 @@ class Trial:
             shifts = common(runs, part_of_them)
             ends = sorted(self.moves.turn(task, it) for it in (shifts[0], shifts[-1]))
             list(twin.ask_all([f"alter {task.event.number} {LAST_TURN} {task.event.text}"]))
-            self.looked_at[key] = self.unnoticed.of(twin, range(ends[0], ends[1] + 1))
+            self.looked_at[key] = unnoticed(twin, range(ends[0], ends[1] + 1))
         return self.looked_at[key]
 
     def near(self, twin: Machine, task: Task) -> Optional[Change]:

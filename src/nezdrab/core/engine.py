@@ -417,6 +417,14 @@ class Machine:
         self.asked.turn = turns.start
         return found, range(turns.stop if is_all else found[-1].turn.turn + 1, turns.stop)
 
+    def accesses_of(self, turns: range) -> Iterator[TurnAccesses]:
+        """The same of all these turns."""
+        for part in in_parts(turns, MOST_TURNS_OF_A_TRAIL):
+            left = range(part[0], part[-1] + 1)
+            while left:
+                found, left = self.accesses(left)
+                yield from found
+
     def listed(self, line: str, turns: range) -> tuple[list[str], range]:
         """The lines that a search of these turns lists, which begin with a turn each, and the turns
         that are left."""

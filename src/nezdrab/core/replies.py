@@ -259,7 +259,7 @@ class WordRead:
         return cls(int(turn), reader, int(word, 8))
 
 
-INSTRUCTION, INTERRUPT = "instr", "irq"
+INSTRUCTION, INTERRUPT, IDLE = "instr", "irq", "idle"
 
 
 @dataclass(frozen=True)
@@ -294,7 +294,7 @@ class CycleKind(Enum):
     BYTE = "byte"
 
 
-CYCLES, TIMEOUT = {it.value for it in CycleKind}, "timeout"
+CYCLES, TIMEOUT = {it.value: it for it in CycleKind}, "timeout"
 
 
 @dataclass(frozen=True)
@@ -312,7 +312,7 @@ class BusCycle:
     def of(cls, line: str) -> "BusCycle":
         kind, *place, address, value = line.split()
         word = None if value == TIMEOUT else int(value, 8)
-        return cls(CycleKind(kind), int(address, 8), bool(place), word)
+        return cls(CYCLES[kind], int(address, 8), bool(place), word)
 
     def line(self) -> str:
         """The line of the reply."""
@@ -341,20 +341,18 @@ class TurnAccesses:
     def of(cls, lines: list[str]) -> "TurnAccesses":
         head, *others = lines
         number, mode, rest = head.split(" ", 2)
-        rows = [it.split(" ", 1) for it in others]
-
-        def named(name: str) -> list[str]:
-            return [row for kind, row in rows if kind == name]
-
-        return cls(
-            Turn.of(f"{number} {rest}"),
-            Mode(mode),
-            named("event"),
-            bytes(int(it, 8) for it in named("printed")),
-            bytes(int(it, 8) for it in named("punched")),
-            next(iter(named("disk")), None),
-            [BusCycle.of(it) for it, (kind, _) in zip(others, rows) if kind in CYCLES],
-        )
+        rows: dict[str, list[str]] = {"event": [], "printed": [], "punched": [], "disk": []}
+        cycles: list[BusCycle] = []
+        for line in others:
+            kind, _, row = line.partition(" ")
+            if kind in CYCLES:
+                cycles.append(BusCycle.of(line))
+            else:
+                rows[kind].append(row)
+        events, *out, done = rows.values()
+        printed, punched = (bytes(int(it, 8) for it in part) for part in out)
+        named = Turn.of(f"{number} {rest}"), Mode(mode), events, printed, punched
+        return cls(*named, next(iter(done), None), cycles)
 
 
 def accesses_of(reply: str) -> tuple[list[TurnAccesses], bool]:
