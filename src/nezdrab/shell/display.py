@@ -18,7 +18,7 @@ def check_only_shows(line: str) -> None:
     """An error if a line isn't one that only shows or finds something."""
     word = sessions.first_word(line)
     is_known = word in COMMANDS or word in FORMS or word in SEARCHES or word in LISTS
-    is_shown = word not in COMMANDS or only_shows(word) and not re.search(r"\sgraph\s", line)
+    is_shown = word not in COMMANDS or only_shows(word)
     if not is_known or is_edit(line) or not is_shown:
         raise ExploreError(f"'{word}' can't be displayed: a LINE shows or finds something")
 

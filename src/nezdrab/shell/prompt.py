@@ -47,7 +47,7 @@ FADES_HELP = (
     "docs/LANGUAGE.md, Searches"
 )
 # With `!` these overwrite a file that this run hasn't written.
-WRITING = {"save", "page", "export", "sweep", "core", "disk", "covered", "log", "matters", "why"}
+WRITING = {"save", "page", "export", "sweep", "core", "disk", "covered", "log", "matters"}
 # The replies of these lines of the language begin with the turn that they have found.
 FINDING = ("last", "first", "latest", "change", "when", "fades")
 # The commands that an empty line does again.
