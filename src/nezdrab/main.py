@@ -11,13 +11,13 @@ from .core.engine import Machine, Start, existing_program, is_refused
 from .core.errors import ExploreError
 from .core.in_words import counted
 from .core.interrupts import INTERRUPTS
+from .core.journal import NO_SESSION, OF_SESSION, Contents, Journal, in_use, newest, state_folder
+from .core.journal import there_already, told
 from .core.options import FILES, Options, check_session, option_lines, words_of_options
 from .core.programs import found_program
 from .core.session_file import refused_lines
 from .core.values import replace
 from .shell.command_line import Parser, ShowVersion, add_options, check_options, options_of
-from .shell.journal import NO_SESSION, OF_SESSION, Contents, Journal, in_use, newest, state_folder
-from .shell.journal import there_already, told
 from .shell.output import Unwritable, complain, fault_in_words, flush, leave_streams
 from .shell.output import prepare_streams, put
 from .shell.prompt import Prompt, read_at_terminal, read_lines

@@ -37,8 +37,9 @@ def break_command(explorer: Explorer, arguments: Arguments) -> Iterator[str]:
     has it, in any mode or in this one, and before which CONDITION holds: that of `first N M where`.
     `continue` goes to it, `breakpoints` lists all, `delete` takes them away. They stay until
     explore ends, and edits leave them as they are; a session doesn't keep them."""
+    address, mode = arguments.octal("address"), arguments.text("mode")
     condition = arguments.text("condition").strip(" \t")
-    yield set_line(set_break(explorer, arguments.octal("address"), arguments.text("mode"), condition))
+    yield set_line(set_break(explorer, address, mode, condition))
 
 
 def set_break(explorer: Explorer, address: int, mode: str, condition: str) -> Breakpoint:

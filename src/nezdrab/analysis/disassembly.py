@@ -1,7 +1,7 @@
 """The program disassemble as a child process."""
 from typing import Optional, Sequence
 
-from ..core.children import Child, ProgramEnded
+from ..core.program import Child, ProgramEnded
 from ..core.errors import ExploreError
 from ..core.values import dataclass
 

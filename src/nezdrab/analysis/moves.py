@@ -7,7 +7,8 @@ from ..core.errors import ExploreError
 from ..core.language import explanation
 from ..core.past import Event
 from ..core.values import dataclass, field
-from .sought_reply import in_one_line, is_reply
+from .sought_reply import is_reply
+from .sweep import in_one_line
 from .unnoticed import unnoticed
 
 FIRST_BLOCK, LARGEST_BLOCK = 16, 256  # moves that are tried in one task

@@ -14,7 +14,6 @@ replies but those of `devices` about a turn between."""
 from ..core.engine import SHORT_SENT_AHEAD, Machine
 from ..core.register_rows import PS, STATE
 from ..core.replies import IDLE, INSTRUCTION, Devices, TurnAccesses
-from .batches import registers_of
 
 KEYBOARD, RESET = range(0o777560, 0o777564), 0o5
 ABOVE_KEYS, ENABLE = 0o200, 0o100  # the bit of PS of the priorities 4 to 7; that of TKS
@@ -37,8 +36,8 @@ def may_interrupt(registers: bytes) -> bool:
 def unnoticed(machine: Machine, turns: range) -> frozenset[int]:
     """Those of these turns that don't notice a key. The machine has the past without it."""
     found = {it.turn.turn for it in machine.accesses_of(turns) if not asks_keyboard(it)}
-    rows = zip(turns, registers_of(machine, turns))
-    asked = [turn for turn, row in rows if turn in found and may_interrupt(row)]
+    rows = (row for block in machine.of_each_turn("regs", turns) for row in block)
+    asked = [turn for turn, row in zip(turns, rows) if turn in found and may_interrupt(row)]
     replies = machine.read_all([f"devices {it}" for it in asked], SHORT_SENT_AHEAD)
     pairs = zip(asked, map(Devices.of, replies))
     return frozenset(found) - {turn for turn, it in pairs if it["TKS"] & ENABLE}

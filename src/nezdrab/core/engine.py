@@ -2,11 +2,10 @@
 import os
 from contextlib import contextmanager, suppress
 from pathlib import Path
-from typing import Iterator, Optional, Sequence, TypeVar
+from typing import TYPE_CHECKING, Iterator, Optional, Sequence, TypeVar
 
 from .asked import Asked
-from .children import ProgramEnded
-from .edit_file import EditFile
+from .program import ProgramEnded
 from .errors import ExploreError
 from .interrupts import INTERRUPTS
 from .language import explanation, is_edit
@@ -17,6 +16,9 @@ from .replies import SPACES, Devices, LastWrite, Mode, Pages, Registers, Turn, T
 from .replies import accesses_of, listed, text_of, turns_of, words_of
 from .sessions import first_word
 from .values import dataclass, field, replace
+
+if TYPE_CHECKING:
+    from .journal import Journal
 
 LAST_TURN = 1_000_000_000
 MOST_TURNS_OF_A_TRAIL = 64
@@ -94,7 +96,7 @@ class Machine:
     journal: list[str] = field(default_factory=list)
     replies: list[str] = field(default_factory=list)
     is_closed: bool = False
-    file: Optional[EditFile] = None
+    file: "Optional[Journal]" = None
     asked: Asked = field(default_factory=Asked)
     seconds: Optional[float] = None  # that the replies to lines sent together may take
 

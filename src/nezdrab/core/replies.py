@@ -43,6 +43,16 @@ def hash_of(it: object) -> int:
     return hash(tuple(fields))
 
 
+class Register:
+    """A register of the processor among the others, as `answer.r0`."""
+
+    def __init__(self, name: str):
+        self.name = name
+
+    def __get__(self, registers: "Registers", of: type) -> int:
+        return registers.words[self.name]
+
+
 @dataclass(frozen=True)
 class Registers:
     """The reply of `regs`."""
@@ -50,6 +60,8 @@ class Registers:
     words: dict[str, int]
     state: str
 
+    r0, r1, r2, r3, r4, r5 = map(Register, ("R0", "R1", "R2", "R3", "R4", "R5"))
+    ksp, usp, pc, ps = map(Register, ("KSP", "USP", "PC", "PS"))
     __hash__ = hash_of
 
     @classmethod
@@ -61,49 +73,9 @@ class Registers:
         return self.words[name]
 
     @property
-    def r0(self) -> int:
-        return self.words["R0"]
-
-    @property
-    def r1(self) -> int:
-        return self.words["R1"]
-
-    @property
-    def r2(self) -> int:
-        return self.words["R2"]
-
-    @property
-    def r3(self) -> int:
-        return self.words["R3"]
-
-    @property
-    def r4(self) -> int:
-        return self.words["R4"]
-
-    @property
-    def r5(self) -> int:
-        return self.words["R5"]
-
-    @property
-    def ksp(self) -> int:
-        return self.words["KSP"]
-
-    @property
-    def usp(self) -> int:
-        return self.words["USP"]
-
-    @property
     def sp(self) -> int:
         """R6 of the mode; each mode without one of its own has that of the kernel."""
         return self.usp if self.mode is Mode.USER else self.ksp
-
-    @property
-    def pc(self) -> int:
-        return self.words["PC"]
-
-    @property
-    def ps(self) -> int:
-        return self.words["PS"]
 
     @property
     def mode(self) -> Mode:

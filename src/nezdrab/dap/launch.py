@@ -10,17 +10,16 @@ from ..analysis.disassembly import Disassembler
 from ..analysis.explorer import Explorer
 from ..core.engine import LAST_TURN, Machine, Start, existing_program
 from ..core.errors import ExploreError
+from ..core.journal import OF_SESSION, Journal
 from ..core.options import FILES, NUMBERS, check_session, option_lines, words_of_options
 from ..core.programs import found_program
 from ..core.session_file import refused_lines
 from ..core.values import dataclass
 from ..shell.command_line import check_options, options_of
 from ..shell.commands import COMMANDS
-from ..shell.journal import OF_SESSION, Journal
 from ..shell.load import warnings_of
-from .fields import Fields
 from .sources import Sources, mode_of
-from .wire import Object
+from .wire import Fields, Object
 
 
 @dataclass(frozen=True)

@@ -13,9 +13,8 @@ from ..core.places import register_of
 from ..core.replies import SPACES, Mode
 from ..core.values import dataclass, field, replace
 from .conditional import Conditional, Counted, check_hit
-from .fields import Fields
 from .sources import Place, Sources, source
-from .wire import Object
+from .wire import Fields, Object
 
 LINES, FUNCTIONS, INSTRUCTIONS = "breakpoint", "function breakpoint", "instruction breakpoint"
 DATA, VECTORS = "data breakpoint", "exception"  # groups are named by the reasons of a stop

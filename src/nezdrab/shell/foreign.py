@@ -144,7 +144,7 @@ LINES_WITH_ARGUMENTS = [
     ("delete", "br?[a-z]*(?P<more> [0-9]{1,9})?", "`delete{more}` takes breakpoints away"),
     ("set show sh info i", "(?:cpu +)?hi[a-z]*[ =]*(?P<turns>[0-9]{0,6})", PAST),
     ("history", "(?P<turns>[0-9]{1,6})", PAST),
-    ("set", "cpu.*", "core has the size of the option --units N, in units of 8 KB; `setup` shows it"),
+    ("set", "cpu.*", "core has the size of --units N, in units of 8 KB; `setup` shows it"),
     ("show sh info i", "(?:dev|tt|rk).*", "`devices {turn}`"),
     ("show sh info i", "(?:cpu|cl).*", "`setup`"),
     ("show sh info i", "(?:br?|wa)[a-z]*", "`breakpoints`"),

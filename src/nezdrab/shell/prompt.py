@@ -16,14 +16,13 @@ from ..core.errors import ExploreError, LineRefused
 from ..core.files import OUTPUT
 from ..core.in_words import counted
 from ..core.interrupts import INTERRUPTS, typed_line
+from ..core.journal import state_folder
 from ..core.language import FADING, FORMS, LISTS, SEARCHES, SUMMARIES, explanation, form_of
 from ..core.language import forms_of_searches, is_decimal, is_edit
 from .commands import COMMANDS, ENDS
 from .completion import HELP, completions
-from .defining import definition_line
-from .display import displays_after_move
+from .display import definition_line, displays_after_move
 from .foreign import led_on, line_of, names_register, sentence
-from .journal import state_folder
 from .mapped import MAPPED_HELP, MAPPED_WORDS, in_core
 from .output import LINES, Unwritable, fault_in_words, flush, put
 from .topics import LINES as LINES_OF, SESSION, TOPICS, command_lines, commands_of, forms_in_lines
@@ -297,7 +296,7 @@ class Prompt(Interpreter):
     def is_instruction(self, word: str, rest: str) -> bool:
         if word != "core":
             return False
-        from .patching import is_instruction  # which reads the assembler
+        from .images import is_instruction  # which reads the assembler
 
         return is_instruction(rest, self.explorer.symbols)
 

@@ -1,7 +1,6 @@
 """Text for people to read: as wide as the terminal, and a screen at a time."""
 import os
 import sys
-import textwrap
 from typing import Iterable, Sequence
 
 from ..analysis.at_work import AtWork
@@ -30,6 +29,8 @@ def width() -> int:
 
 def wrap(text: str, columns: int) -> list[str]:
     """A paragraph in lines of this width. One that is indented goes on a little deeper."""
+    import textwrap  # which takes a while to read
+
     indent = " " * (len(text) - len(text.lstrip(" ")))
     deeper = indent + " " * DEEPER if indent else ""
     found = textwrap.wrap(

@@ -9,7 +9,7 @@ from nezdrab.shell import prompt, wrapping  # noqa: F401, which adds the command
 from nezdrab.shell.commands import COMMANDS
 from nezdrab.shell.topics import ASKING, LINES, NAMED, SHOWING, TOPICS, commands_of
 
-from .common import SECONDS, Case
+from .common import Case
 from .terminal import AtTerminal
 
 COLUMNS, ROWS = 40, 10

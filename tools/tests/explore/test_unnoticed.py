@@ -97,8 +97,7 @@ class Fewer(OnMachine):
     def results(self, explorer: Explorer, line: str) -> Results:
         matters = Matters.of(explorer.machine, line)
         results = Results("", explorer.machine.script)
-        for task, change in tried(explorer.machine, matters, results, 1):
-            results.add(task, change)
+        list(tried(explorer.machine, matters, results, 1))
         return results
 
     def test_all_tried_and_few_tried(self) -> None:

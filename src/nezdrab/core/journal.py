@@ -8,12 +8,12 @@ from contextlib import contextmanager, suppress
 from pathlib import Path
 from typing import Iterator, Optional, Sequence
 
-from ..core.errors import ExploreError
-from ..core.files import is_locked_here
-from ..core.in_words import counted
-from ..core.language import is_edit
-from ..core.options import LONGEST_PART, MARK, Options, option_text, options_of_words
-from ..core.values import dataclass, field
+from .errors import ExploreError
+from .files import is_locked_here
+from .in_words import counted
+from .language import is_edit
+from .options import LONGEST_PART, MARK, Options, option_text, options_of_words
+from .values import dataclass, field
 
 ENDING = ".journal"
 MOST_KEPT = 30
