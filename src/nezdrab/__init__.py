@@ -16,7 +16,7 @@ if TYPE_CHECKING:
     from .core import hardware as hardware, questions as questions
     from .core.program import ProgramEnded as ProgramEnded
     from .core.engine import LAST_TURN as LAST_TURN, Refused as Refused
-    from .core.errors import ExploreError as NezdrabError
+    from .core.errors import ExploreError
     from .core.found import Found as Found, Transfer as Transfer, Unreadable as Unreadable
     from .core.machine import Machine as Machine
     from .core.past import Event as Event, Setup as Setup
@@ -28,6 +28,7 @@ if TYPE_CHECKING:
     from .core.replies import TurnAccesses as TurnAccesses, WordRead as WordRead
     from .core.struck import Fate as Fate, StruckKey as StruckKey
 
+    NezdrabError = ExploreError
     __version__: str
 
 # Where each name comes from, and the modules that a program reads whole. Only what is used is read:

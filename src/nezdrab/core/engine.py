@@ -1,5 +1,4 @@
 """The machine that the program runs, with its edits."""
-import os
 from contextlib import contextmanager, suppress
 from pathlib import Path
 from typing import TYPE_CHECKING, Iterator, Optional, Sequence, TypeVar
@@ -457,9 +456,3 @@ class Machine:
         """These turns, by as many trails as it takes. A reply of a trail has some 1,300 bytes."""
         for reply in self.read_all(self.trail_lines(first, count)):
             yield from turns_of(reply)
-
-
-def existing_program(path: str) -> str:
-    if not os.access(path, os.X_OK):
-        raise ExploreError(f"{path}: no such program")
-    return os.path.abspath(path)

@@ -32,6 +32,11 @@ def state_folder() -> Optional[Path]:
     return Path(folder) / "nezdrab" if os.path.isabs(folder) else None
 
 
+def session_line(session: Optional[object]) -> str:
+    """The line of a journal that names its session."""
+    return f"{OF_SESSION}{session or NO_SESSION}".replace("\n", " ")
+
+
 @dataclass
 class KeptStep:
     """A line at the prompt, its edits, and the lines of the options that it changed."""
