@@ -14,9 +14,9 @@ from typing import TYPE_CHECKING
 
 if TYPE_CHECKING:
     from .core import hardware as hardware, questions as questions
-    from .core.children import ProgramEnded as ProgramEnded
+    from .core.program import ProgramEnded as ProgramEnded
     from .core.engine import LAST_TURN as LAST_TURN, Refused as Refused
-    from .core.errors import ExploreError as NezdrabError
+    from .core.errors import ExploreError
     from .core.found import Found as Found, Transfer as Transfer, Unreadable as Unreadable
     from .core.machine import Machine as Machine
     from .core.past import Event as Event, Setup as Setup
@@ -28,64 +28,27 @@ if TYPE_CHECKING:
     from .core.replies import TurnAccesses as TurnAccesses, WordRead as WordRead
     from .core.struck import Fate as Fate, StruckKey as StruckKey
 
+    NezdrabError = ExploreError
     __version__: str
 
 # Where each name comes from, and the modules that a program reads whole. Only what is used is read:
 # explore, which is part of the package, starts without all of this.
 MODULES = ("hardware", "questions")
-PLACES = {
-    "BusCycle": "core.replies",
-    "CycleKind": "core.replies",
-    "LAST_TURN": "core.engine",
-    "Devices": "core.replies",
-    "Event": "core.past",
-    "Fate": "core.struck",
-    "Found": "core.found",
-    "LastWrite": "core.replies",
-    "Machine": "core.machine",
-    "Mode": "core.replies",
-    "NezdrabError": "core.errors",
-    "Pages": "core.replies",
-    "ProgramEnded": "core.children",
-    "Question": "core.questions",
-    "Refused": "core.engine",
-    "Registers": "core.replies",
-    "Setup": "core.past",
-    "StruckKey": "core.struck",
-    "TimedOut": "core.program",
-    "Transfer": "core.found",
-    "Turn": "core.replies",
-    "TurnAccesses": "core.replies",
-    "Unreadable": "core.found",
-    "WordRead": "core.replies",
-}
-OTHERWISE_NAMED = {"NezdrabError": "ExploreError"}
-__all__ = [
-    "LAST_TURN",
-    "BusCycle",
-    "CycleKind",
-    "Devices",
-    "Event",
-    "Fate",
-    "Found",
-    "LastWrite",
-    "Machine",
-    "Mode",
-    "NezdrabError",
-    "Pages",
-    "ProgramEnded",
-    "Question",
-    "Refused",
-    "Registers",
-    "Setup",
-    "StruckKey",
-    "TimedOut",
-    "Transfer",
-    "Turn",
-    "TurnAccesses",
-    "Unreadable",
+NAMES = {
+    "engine": "LAST_TURN Refused",
+    "errors": "NezdrabError",
+    "found": "Found Transfer Unreadable",
+    "machine": "Machine",
+    "past": "Event Setup",
+    "program": "ProgramEnded TimedOut",
+    "questions": "Question",
+    "replies": "BusCycle CycleKind Devices LastWrite Mode Pages Registers Turn TurnAccesses "
     "WordRead",
-]
+    "struck": "Fate StruckKey",
+}
+PLACES = {name: f"core.{module}" for module, names in NAMES.items() for name in names.split()}
+OTHERWISE_NAMED = {"NezdrabError": "ExploreError"}
+__all__ = list(PLACES)
 
 if not TYPE_CHECKING:
 

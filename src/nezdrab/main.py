@@ -5,19 +5,19 @@ import sys
 from pathlib import Path
 from typing import Iterator, Optional
 
-from .analysis.disassembly import Disassembler
+from .analysis.disassembly import disassembler_of
 from .analysis.explorer import Explorer, Step
-from .core.engine import Machine, Start, existing_program, is_refused
+from .core.engine import Machine, Start, is_refused
 from .core.errors import ExploreError
 from .core.in_words import counted
 from .core.interrupts import INTERRUPTS
+from .core.journal import NO_SESSION, Contents, Journal, in_use, newest, session_line
+from .core.journal import state_folder, there_already, told
 from .core.options import FILES, Options, check_session, option_lines, words_of_options
-from .core.programs import found_program
+from .core.programs import program_of
 from .core.session_file import refused_lines
 from .core.values import replace
 from .shell.command_line import Parser, ShowVersion, add_options, check_options, options_of
-from .shell.journal import NO_SESSION, OF_SESSION, Contents, Journal, in_use, newest, state_folder
-from .shell.journal import there_already, told
 from .shell.output import Unwritable, complain, fault_in_words, flush, leave_streams
 from .shell.output import prepare_streams, put
 from .shell.prompt import Prompt, read_at_terminal, read_lines
@@ -87,15 +87,6 @@ def arguments(words: list[str]) -> argparse.Namespace:
     return new_parser().parse_args(words)
 
 
-def disassembler_of(given: Optional[str]) -> Disassembler:
-    """Without the program explore goes on, and shows words."""
-    try:
-        return Disassembler(existing_program(given) if given else found_program("disassemble"))
-    except ExploreError as error:
-        complain(f"{error}; instructions are shown as words")
-        return Disassembler(None)
-
-
 def read_session(machine: Machine, path: Path) -> None:
     """Makes the edits of a session, and complains of each that is refused."""
     for refused in refused_lines(machine, path):
@@ -117,9 +108,8 @@ def journal_of(found: argparse.Namespace, options: Options) -> Optional[Journal]
     """The journal of this run, if it has one."""
     if found.no_journal or not (found.journal or sys.stdin.isatty()):
         return None
-    session = os.path.abspath(found.session) if found.session else NO_SESSION
-    of_session = f"{OF_SESSION}{session}".replace("\n", " ")
-    heading = [*option_lines(options), of_session]
+    session = os.path.abspath(found.session) if found.session else None
+    heading = [*option_lines(options), session_line(session)]
     if not found.journal:
         return Journal(heading, is_own=True)
     path = Path(found.journal)
@@ -171,9 +161,9 @@ def begun(found: argparse.Namespace) -> Explorer:
         for warning in warnings_of(options):
             complain(warning)
     check_options(options, found, taken_up or session)
-    program = existing_program(found.program) if found.program else found_program("search")
+    program = program_of("search", found.program)
     machine = Machine(Start(program, words_of_options(options), Path.cwd()))
-    explorer = Explorer(machine, disassembler_of(found.disassembler))
+    explorer = Explorer(machine, disassembler_of(found.disassembler, complain))
     explorer.is_terminal = sys.stdin.isatty()
     explorer.session = session
     if taken_up:

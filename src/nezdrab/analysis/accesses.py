@@ -61,12 +61,10 @@ def accesses(explorer: Explorer, arguments: Arguments) -> Iterator[str]:
         raise ExploreError(f"C is 1 to {MOST_TURNS_OF_A_TRAIL}")
     if not end:
         raise ExploreError("no turn comes before turn 0")
-    machine, left = explorer.machine, range(end - count, end)
-    shown = [it.line() for it in seen(explorer, list(machine.turns(left.start, count)))]
+    machine, turns = explorer.machine, range(end - count, end)
+    shown = [it.line() for it in seen(explorer, list(machine.turns(turns.start, count)))]
     yield HEADING
-    while left:
-        found, left = machine.accesses(left)
-        for turn in found:
-            yield shown[turn.turn.turn - (end - count)]
-            yield from (f"{INDENT}{it}" for it in lines_of(turn))
+    for line, turn in zip(shown, machine.accesses_of(turns)):
+        yield line
+        yield from (f"{INDENT}{it}" for it in lines_of(turn))
     explorer.turn = end

@@ -12,17 +12,19 @@ from .calls import turns_ahead
 from .command import Arguments, command
 from .explorer import Explorer
 from .listing import seen
-from .search import word_of
+from .search import checked_word
 
 MOST_PARTS = 4  # of a CONDITION
 OPERATOR = re.compile(r"\s*(==|!=|=|<|>|&)\s*")
+OPERATORS = ("=", "!=", "<", ">", "&")
+REGISTER = re.compile("r[0-5]|[ku]?sp|pc|ps", re.I)
 NONE_SET = (
     "no breakpoint is set: break X, watch A, rwatch A, catch vector V or catch trap V sets one"
 )
 
 
-def set_lines(point: Breakpoint) -> Iterator[str]:
-    yield f"breakpoint {point.number}: {point.text}"
+def set_line(point: Breakpoint) -> str:
+    return f"breakpoint {point.number}: {point.text}"
 
 
 @command(
@@ -35,12 +37,17 @@ def break_command(explorer: Explorer, arguments: Arguments) -> Iterator[str]:
     has it, in any mode or in this one, and before which CONDITION holds: that of `first N M where`.
     `continue` goes to it, `breakpoints` lists all, `delete` takes them away. They stay until
     explore ends, and edits leave them as they are; a session doesn't keep them."""
-    machine, address = explorer.machine, word_of(arguments, "address")
-    mode, condition = arguments.text("mode"), arguments.text("condition").strip(" \t")
-    text = f"break {mode + ' ' if mode else ''}{address:o}{named(explorer, mode, address)}"
+    address, mode = arguments.octal("address"), arguments.text("mode")
+    condition = arguments.text("condition").strip(" \t")
+    yield set_line(set_break(explorer, address, mode, condition))
+
+
+def set_break(explorer: Explorer, address: int, mode: str, condition: str) -> Breakpoint:
+    """A breakpoint at an instruction, in any mode or in this one."""
+    text = f"break {mode + ' ' if mode else ''}{checked_word(address):o}"
+    text += named(explorer, mode, address) + (f" if {condition}" if condition else "")
     sought = sought_at(explorer, address, mode, condition)
-    text += f" if {condition}" if condition else ""
-    yield from set_lines(explorer.breakpoints.add(machine, text, sought, None))
+    return explorer.breakpoints.add(explorer.machine, text, sought, None)
 
 
 def sought_at(explorer: Explorer, address: int, mode: str, condition: str) -> str:
@@ -64,10 +71,24 @@ def named(explorer: Explorer, mode: str, address: int) -> str:
 
 
 def condition_in_words(text: str) -> str:
-    """A CONDITION in words: gdb, editors and their users write == and && and no spaces."""
-    joined = text.replace("&&", " and ")
+    """A CONDITION in words: gdb, editors and their users write ==, &&, $r0, 0x10, no spaces and
+    `COUNT > 3`, which is about the word of core at COUNT."""
+    joined = re.sub("[()]", " ", text.replace("&&", " and "))
     spaced = OPERATOR.sub(lambda it: f" {'=' if it[1] == '==' else it[1]} ", joined)
-    return " ".join(spaced.split())
+    words = [number_or_name(it) for it in spaced.split()]
+    sides = zip(["and", *words], words, [*words[1:], ""])
+    is_core = [
+        before == "and" and after in OPERATORS and not REGISTER.fullmatch(it)
+        for before, it, after in sides
+    ]
+    return " ".join(f"core {it}" if of_core else it for it, of_core in zip(words, is_core))
+
+
+def number_or_name(word: str) -> str:
+    """A word of a CONDITION as it is written here."""
+    if re.fullmatch("0x[0-9a-f]{1,5}", word, re.I):
+        return f"{int(word, 16):o}"
+    return word[1:].upper() if word[:1] == "$" and REGISTER.fullmatch(word[1:]) else word
 
 
 def condition_sought(explorer: Explorer, parts: list[str]) -> str:
@@ -89,20 +110,21 @@ def watch(explorer: Explorer, arguments: Arguments) -> Iterator[str]:
     """Sets a breakpoint at each turn that writes the core word at A, an address of core, also if
     the word stays the same, and also if the disk writes it. An image and a patch are no writes. A
     may be a register on the bus, such as TPB, as in `writes`."""
-    return watched_lines(explorer, arguments.octal("address"), is_read=False)
+    yield set_line(set_watch(explorer, arguments.octal("address"), is_read=False))
 
 
 @command("rwatch A", r"<address:place>", "a breakpoint: a read of a core word or a register")
 def rwatch(explorer: Explorer, arguments: Arguments) -> Iterator[str]:
     """Sets a breakpoint at each turn that reads the core word at A, an address of core, as `reads`
     lists them: the processor or the disk. A may be a register on the bus, such as TKB."""
-    return watched_lines(explorer, arguments.octal("address"), is_read=True)
+    yield set_line(set_watch(explorer, arguments.octal("address"), is_read=True))
 
 
-def watched_lines(explorer: Explorer, address: int, is_read: bool) -> Iterator[str]:
+def set_watch(explorer: Explorer, address: int, is_read: bool) -> Breakpoint:
+    """A breakpoint at reads or writes of a core word, or of a register at its place."""
     name = NAMES_IN_THE_IO_PAGE.get(address, "")
     text = f"{'r' * is_read}watch {address:o}{f' ({name})' if name else ''}"
-    yield from set_lines(explorer.breakpoints.add(explorer.machine, text, "", address, is_read))
+    return explorer.breakpoints.add(explorer.machine, text, "", address, is_read)
 
 
 @command(
@@ -113,18 +135,20 @@ def watched_lines(explorer: Explorer, address: int, is_read: bool) -> Iterator[s
 def catch(explorer: Explorer, arguments: Arguments) -> Iterator[str]:
     """Sets a breakpoint at each turn that is an interrupt by vector V, or that has a trap through
     vector V, as `first N M vector V` and `first N M trap V` find it."""
-    sought = f"{arguments.text('kind')} {word_of(arguments, 'vector'):o}"
-    point = explorer.breakpoints.add(explorer.machine, f"catch {sought}", sought, None)
-    yield from set_lines(point)
+    yield set_line(set_catch(explorer, arguments.text("kind"), arguments.octal("vector")))
+
+
+def set_catch(explorer: Explorer, kind: str, vector: int) -> Breakpoint:
+    """A breakpoint at an interrupt or a trap."""
+    sought = f"{kind} {checked_word(vector):o}"
+    return explorer.breakpoints.add(explorer.machine, f"catch {sought}", sought, None)
 
 
 @command("breakpoints", r"", "lists the breakpoints")
 def breakpoints(explorer: Explorer, arguments: Arguments) -> Iterator[str]:
     """Lists the breakpoints with their numbers."""
-    points = explorer.breakpoints.points
-    for point in points:
-        yield from set_lines(point)
-    if not points:
+    yield from map(set_line, explorer.breakpoints.points)
+    if not explorer.breakpoints.points:
         yield NONE_SET
 
 
@@ -149,7 +173,7 @@ def check_set(explorer: Explorer) -> None:
 
 def reached_line(explorer: Explorer, point: Breakpoint, turn: int) -> str:
     """The breakpoint, and for a write or a read who wrote or read what."""
-    (line,) = set_lines(point)
+    line = set_line(point)
     if point.address is None:
         return line
     finder, turns = explorer.finder, range(turn, turn + 1)

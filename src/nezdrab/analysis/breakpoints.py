@@ -5,7 +5,7 @@ from ..core.engine import Machine
 from ..core.errors import ExploreError
 from ..core.places import is_register
 from ..core.register_search import READ, WRITTEN, found_at
-from ..core.replies import LastWrite, WordRead
+from ..core.replies import WordRead
 from ..core.values import dataclass, field
 from .finder import TURNS_OF_A_SEARCH, Finder, growing_parts
 
@@ -35,8 +35,8 @@ class Breakpoint:
             yield from (turn for turn, _ in found)
 
     def first(self, machine: Machine, turns: range) -> Optional[int]:
-        """The first of the turns at which it holds. `last`, which tells first whether there is a
-        write, runs no known turn again."""
+        """The first of the turns at which it holds. Of writes `Finder` looks in parts that double,
+        which runs few known turns again."""
         if self.address is None:
             return machine.found("first", turns, self.sought)
         if self.is_of_register:
@@ -44,10 +44,8 @@ class Breakpoint:
         if self.is_read:
             lines, _ = machine.reads(turns, self.address)
             return WordRead.of(lines[0]).turn if lines else None
-        if self.last(machine, turns) is None:
-            return None
-        lines, _ = machine.writes(turns, self.address)
-        return LastWrite.of_line(lines[0]).turn if lines else None
+        write = Finder(machine).next_write(turns, self.address)
+        return None if write is None else write.turn
 
     def last(self, machine: Machine, turns: range) -> Optional[int]:
         if self.address is None:

@@ -10,7 +10,7 @@ from ..core.language import comma_fault
 from ..core.places import place_of
 from ..core.replies import Mode
 from ..core.symbols import ADDRESS
-from ..core.values import dataclass
+from ..core.values import dataclass, field
 from .explorer import Explorer
 from .quotes import RULE, WORD, file_of, quote_fault, text_of
 
@@ -19,9 +19,11 @@ MOST_WORDS = 20  # that are looked at for missing quotes
 
 @dataclass(frozen=True)
 class Arguments:
-    """The named parts of a command's words. A part that isn't there is None."""
+    """The named parts of a command's words. A part that isn't there is None. `numbers` are those of
+    addresses and places, whose words may be names."""
 
     parts: dict[str, Optional[str]]
+    numbers: dict[str, int] = field(default_factory=dict)
 
     def optional(self, name: str) -> Optional[str]:
         return self.parts[name]
@@ -29,11 +31,12 @@ class Arguments:
     def text(self, name: str) -> str:
         return self.parts[name] or ""
 
-    def decimal(self, name: str, default: int = 0) -> int:
-        return int(self.parts[name] or default)
+    def decimal(self, name: str, default: int = 0, base: int = 10) -> int:
+        text = self.parts[name]
+        return self.numbers[name] if name in self.numbers else int(text, base) if text else default
 
     def octal(self, name: str, default: int = 0) -> int:
-        return int(self.parts[name] or f"{default:o}", 8)
+        return self.decimal(name, default, 8)
 
 
 Run = Callable[[Explorer, Arguments], Iterator[str]]
@@ -60,24 +63,13 @@ class Command:
         return "\n".join(it.strip() for it in lines)
 
     @cached_property
-    def addresses(self) -> frozenset[str]:
-        return self.parts_of("address")
+    def kinds(self) -> dict[str, str]:
+        """The kind of each part."""
+        return dict(re.findall(r"<(\w+):(\w+)>", self.words))
 
-    @cached_property
-    def places(self) -> frozenset[str]:
-        return self.parts_of("place")
-
-    @cached_property
-    def files(self) -> frozenset[str]:
-        return self.parts_of("file")
-
-    @cached_property
-    def texts(self) -> frozenset[str]:
-        return self.parts_of("text")
-
-    def parts_of(self, kind: str) -> frozenset[str]:
-        """The names of the parts of this kind."""
-        return frozenset(re.findall(rf"<(\w+):{kind}>", self.words))
+    def parts_of(self, *kinds: str) -> frozenset[str]:
+        """The names of the parts of these kinds."""
+        return frozenset(it for it, kind in self.kinds.items() if kind in kinds)
 
     @cached_property
     def pattern(self) -> "re.Pattern[str]":
@@ -99,19 +91,20 @@ class Command:
             check_drive(explorer.machine)
         if "\0" in words:
             raise ExploreError("the line has a NUL")
-        mode = parts.get("mode")
-        for name in self.addresses.intersection(it for it, text in parts.items() if text):
-            number = explorer.symbols.number(parts[name], Mode(mode) if mode else None)
-            parts[name] = f"{number:o}"
-        for name in self.places.intersection(it for it, text in parts.items() if text):
-            parts[name] = f"{place_of(explorer.machine, explorer.symbols, parts[name] or ''):o}"
-        for names, inside in ((self.files, file_of), (self.texts, text_of)):
-            parts.update((it, inside(parts[it])) for it in names if parts[it] is not None)
-        return self.run(explorer, Arguments(parts))
+        mode, numbers = Mode(parts["mode"]) if parts.get("mode") else None, dict[str, int]()
+        for name, kind in self.kinds.items():
+            text = parts[name]
+            if text and kind == "address":
+                numbers[name] = explorer.symbols.number(text, mode)
+            elif text and kind == "place":
+                numbers[name] = place_of(explorer.machine, explorer.symbols, text)
+            elif text is not None and kind in INSIDE:
+                parts[name] = INSIDE[kind](text)
+        return self.run(explorer, Arguments(parts, numbers))
 
     def fault(self, words: str) -> str:
         """Why these words haven't the form."""
-        has_quotes = bool(self.files | self.texts)
+        has_quotes = bool(self.parts_of("file", "text"))
         if has_quotes and quote_fault(words):
             return quote_fault(words)
         if comma_fault(words):
@@ -128,6 +121,8 @@ class Command:
         return any(map(self.pattern.fullmatch, as_one))
 
 
+# What a part in quotes is.
+INSIDE = {"file": file_of, "text": text_of}
 # The commands by their names, of the modules that were read.
 READ: dict[str, Command] = {}
 

@@ -1,7 +1,8 @@
 """The program disassemble as a child process."""
-from typing import Optional, Sequence
+from typing import Callable, Optional, Sequence
 
-from ..core.children import Child, ProgramEnded
+from ..core.program import Child, ProgramEnded
+from ..core.programs import program_of
 from ..core.errors import ExploreError
 from ..core.values import dataclass
 
@@ -70,3 +71,12 @@ class Disassembler:
         if self.child is not None:
             self.child.close()
             self.child = None
+
+
+def disassembler_of(given: Optional[str], say: Callable[[str], None]) -> Disassembler:
+    """Without the program explore goes on, and shows words."""
+    try:
+        return Disassembler(program_of("disassemble", given))
+    except ExploreError as error:
+        say(f"{error}; instructions are shown as words")
+        return Disassembler(None)

@@ -1,8 +1,10 @@
 """Words where they are: `dump`."""
 import itertools
-from typing import Iterable, Iterator, Optional, Sequence
+from functools import partial
+from typing import Callable, Iterator, Optional, Sequence
 
-from ..core.engine import MOST_WORDS, SHORT_SENT_AHEAD, Machine
+from ..core.all_words import core_lines, drive_lines, words_in
+from ..core.engine import MOST_WORDS, SHORT_SENT_AHEAD, Machine, in_parts
 from ..core.errors import ExploreError
 from ..core.hardware import DRIVE_WORDS
 from ..core.language import is_decimal
@@ -47,25 +49,30 @@ class Words:
 
 def in_core(machine: Machine, turn: int, address: int, count: int) -> Words:
     top = machine.setup.units * UNIT_BYTES
-    if address >= top:
-        raise ExploreError(f"core ends at {top - 2:06o}")
-    found = Words(6, 2)
-    there = range(address, min(address + 2 * count, top), 2)
-    lines = [f"mem {turn} {it[0]:o} {len(it)}" for it in parts(there)]
-    found.words.update(zip(there, words_in(machine.read_all(lines))))
-    found.end = f"core ends at {top - 2:06o}" if len(there) < count else ""
-    return found
+    places, end = range(address, address + 2 * count, 2), f"core ends at {top - 2:06o}"
+    return read_words(machine, 6, places, top, end, partial(core_lines, turn))
 
 
 def on_disk(machine: Machine, turn: int, drive: int, index: int, count: int) -> Words:
-    if index >= DRIVE_WORDS:
-        raise ExploreError(f"a drive ends at {DRIVE_WORDS - 1:07o}")
-    found = Words(7, 1)
-    there = range(index, min(index + count, DRIVE_WORDS))
-    lines = [machine.disk_line(turn, drive, it[0], len(it)) for it in parts(there)]
-    found.words.update(zip(there, words_in(machine.read_all(lines))))
-    found.end = f"a drive ends at {DRIVE_WORDS - 1:07o}" if len(there) < count else ""
-    return found
+    places, end = range(index, index + count), f"a drive ends at {DRIVE_WORDS - 1:07o}"
+    lines = partial(drive_lines, machine, turn, drive)
+    return read_words(machine, 7, places, DRIVE_WORDS, end, lines)
+
+
+def read_words(
+    machine: Machine,
+    digits: int,
+    places: range,
+    top: int,
+    end: str,
+    lines: Callable[[range], list[str]],
+) -> Words:
+    """The words at these places, up to the end of what they are in."""
+    there = range(places.start, min(places.stop, top), places.step)
+    if not there:
+        raise ExploreError(end)
+    words: dict[int, Optional[int]] = dict(zip(there, words_in(machine.read_all(lines(there)))))
+    return Words(digits, places.step, words, end=end if len(there) < len(places) else "")
 
 
 def in_mode(machine: Machine, turn: int, mode: Mode, address: int, count: int) -> Words:
@@ -75,8 +82,9 @@ def in_mode(machine: Machine, turn: int, mode: Mode, address: int, count: int) -
         raise ExploreError(f"the addresses of a program end at {VIRTUAL_END - 2:o}")
     found = Words(6, 2)
     there = range(address, min(address + 2 * count, VIRTUAL_END), 2)
-    asked = [f"virtual {turn} {mode.value} {it[0]:o} {len(it)}" for it in parts(there)]
-    for part, reply in zip(parts(there), list(machine.read_all(asked))):
+    parts = list(in_parts(there, MOST_WORDS))
+    asked = [f"virtual {turn} {mode.value} {it[0]:o} {len(it)}" for it in parts]
+    for part, reply in zip(parts, list(machine.read_all(asked))):
         if is_read(reply):
             found.words.update(zip(part, words_of(reply)))
             continue
@@ -88,15 +96,6 @@ def in_mode(machine: Machine, turn: int, mode: Mode, address: int, count: int) -
     ends = f"the addresses end at {VIRTUAL_END - 2:o}"
     found.end = ends if len(there) < count else ""
     return found
-
-
-def parts(places: range) -> list[range]:
-    """The places in parts, each for one question."""
-    return [places[at : at + MOST_WORDS] for at in range(0, len(places), MOST_WORDS)]
-
-
-def words_in(replies: Iterable[str]) -> Iterator[int]:
-    return (word for reply in replies for word in words_of(reply))
 
 
 def is_read(reply: str) -> bool:
@@ -113,33 +112,27 @@ def fault_in_words(reply: str) -> str:
 # How the words of a line are shown
 
 
-def in_octal(words: Sequence[Optional[int]]) -> str:
-    return " ".join("------" if it is None else f"{it:06o}" for it in words)
-
-
-def bytes_of(word: int) -> tuple[int, int]:
-    """The bytes of a word in the order of their addresses."""
-    return word & 0o377, word >> 8
-
-
-def in_bytes(words: Sequence[Optional[int]]) -> str:
-    return " ".join(
-        "--- ---" if it is None else " ".join(f"{byte:03o}" for byte in bytes_of(it))
-        for it in words
-    )
-
-
 def character(byte: int) -> str:
     """A byte as `text` shows it."""
     is_itself = BLANK <= byte < DELETE and byte != BACKSLASH
     return chr(byte) if is_itself else f"\\{byte:03o}"
 
 
+def in_octal(words: Sequence[Optional[int]]) -> str:
+    return " ".join("------" if it is None else f"{it:06o}" for it in words)
+
+
+def in_bytes(
+    words: Sequence[Optional[int]], shown: Callable[[int], str] = "{:03o}".format
+) -> str:
+    """The bytes in the order of their addresses."""
+    unread = len(shown(0)) * "-"
+    bytes_of = ((None, None) if it is None else (it & 0o377, it >> 8) for it in words)
+    return " ".join(unread if it is None else shown(it) for pair in bytes_of for it in pair)
+
+
 def in_text(words: Sequence[Optional[int]]) -> str:
-    return " ".join(
-        "---- ----" if it is None else " ".join(f"{character(byte):>4}" for byte in bytes_of(it))
-        for it in words
-    )
+    return in_bytes(words, lambda it: f"{character(it):>4}")
 
 
 def as_numbers(words: Sequence[Optional[int]]) -> str:
@@ -151,7 +144,9 @@ def as_numbers(words: Sequence[Optional[int]]) -> str:
     return f"{word:06o}  {word:>5}  {signed:>6}  {in_text(words)}"
 
 
-FORMATS = {"octal": in_octal, "bytes": in_bytes, "text": in_text, "words": as_numbers}
+FORMATS: dict[str, Callable[[Sequence[Optional[int]]], str]] = {
+    **{"octal": in_octal, "bytes": in_bytes, "text": in_text, "words": as_numbers}
+}
 
 
 def dumped(found: Words, how: str) -> Iterator[str]:

@@ -1,17 +1,20 @@
 """What commands work on: the machine, the current turn, and what lines have made."""
+from functools import cached_property
 from pathlib import Path
-from typing import Iterator, Optional
+from typing import TYPE_CHECKING, Iterator, Optional
 
 from ..core.engine import Machine, Start
 from ..core.errors import ExploreError
 from ..core.replies import Registers
 from ..core.symbols import Symbols
 from ..core.values import dataclass, field
-from .breakpoints import Breakpoints
 from .definitions import Definitions
 from .disassembly import Disassembler
 from .fades import Fading
-from .finder import Finder
+
+if TYPE_CHECKING:
+    from .breakpoints import Breakpoints
+    from .finder import Finder
 
 PROMPT = "explore> "
 
@@ -105,7 +108,6 @@ class Explorer:
     saved: list[str] = field(default_factory=list)
     sitting: Sitting = field(default_factory=Sitting)
     fading: Fading = field(default_factory=Fading)
-    breakpoints: Breakpoints = field(default_factory=Breakpoints)
     definitions: Definitions = field(default_factory=Definitions)
     displays: Displays = field(default_factory=Displays)
     interpreter: Interpreter = field(default_factory=Interpreter)
@@ -116,6 +118,14 @@ class Explorer:
         """The prompt, at a terminal with the current turn if it isn't turn 0."""
         return f"explore {self.turn}> " if self.turn and self.is_terminal else PROMPT
 
+    @cached_property
+    def breakpoints(self) -> "Breakpoints":
+        from .breakpoints import Breakpoints  # which few lines need
+
+        return Breakpoints()
+
     @property
-    def finder(self) -> Finder:
+    def finder(self) -> "Finder":
+        from .finder import Finder  # the same
+
         return Finder(self.machine)

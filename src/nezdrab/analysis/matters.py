@@ -7,7 +7,6 @@ from ..core.asked import sparse_stride
 from ..core.engine import LAST_TURN, Machine
 from ..core.errors import ExploreError
 from ..core.in_words import counted, some_are
-from ..core.interrupts import INTERRUPTS
 from ..core.language import comma_fault
 from ..core.past import Event
 from ..core.sessions import words_of
@@ -17,12 +16,11 @@ from .crew import Progress, each_of
 from .explorer import Explorer
 from .matters_table import Row, table
 from .moves import Change, Moves, Task, Trial, Tried, Way, common, named_events
-from .quotes import files_of, quote_fault
-from .result_files import ResultFile, job_lines, kept_in
+from .long_work import job_lines, kept_in, read_files, stopped_work
 from .sought_reply import is_reply, reply_of_turn
 from .sweep import digest_of
 from .sweep_fades import end_of
-from .work_options import WorkOptions
+from .long_work import WorkOptions
 
 USUAL_MOST = 1_024
 JOBS = 64
@@ -48,7 +46,8 @@ class Results:
     a heading. The reply is that of the move by LAST turns, and `same` before it; or all are. The
     events of a file are those of the script, if there is one."""
 
-    heading: str
+    work = "matters"
+    heading: str = ""
     script: Optional[Sequence[Event]] = None
     tried: dict[tuple[Event, Way], Tried] = field(default_factory=dict)
 
@@ -63,48 +62,31 @@ class Results:
         event = f"{task.event.number} {task.event.turn} {task.event.text}"
         return f"{event}: {task.way.value} {first} {last} {change.reply if change else SAME}"
 
-    def read(self, path: Path) -> None:
-        """Adds what a file has. A last line without its end was cut off, and counts for nothing."""
-        try:
-            self.take(path, path.read_text(errors="replace"))
-        except OSError as error:
-            raise ExploreError(f"{path}: {error.strerror}") from error
+    def __post_init__(self) -> None:
+        self.events = None if self.script is None else frozenset(self.script)
 
-    def take(self, path: Path, text: str) -> None:
-        """Adds what the text of a file has."""
-        known = None if self.script is None else frozenset(self.script)
-        for number, line in enumerate(text.split("\n")[:-1], 1):
-            self.heading = self.heading or line
-            found = RESULT.fullmatch(line)
-            event = event_of(found) if found else None
-            is_foreign = event is not None and known is not None and event not in known
-            if is_foreign or line.startswith("#") and line != self.heading:
-                said = "of another question, or of another past"
-                raise ExploreError(f"{path}:{number}: {said}: {line}")
-            if found and event:
-                self.take_result(event, found)
-            elif not HEADING.fullmatch(line):
-                raise ExploreError(f"{path}:{number}: no line of matters")
+    def __len__(self) -> int:
+        return sum(len(it.known) for it in self.tried.values())
 
-    def take_result(self, event: Event, found: "re.Match[str]") -> None:
+    def take(self, line: str) -> str:
+        found = RESULT.fullmatch(line)
+        event = Event(int(found["event"]), int(found["turn"]), found["text"]) if found else None
+        is_foreign = event is not None and self.events is not None and event not in self.events
+        if is_foreign or line.startswith("#") and line != self.heading:
+            return f"of another question, or of another past: {line}"
+        if found is None or event is None:
+            return "" if HEADING.fullmatch(line) else "no line of matters"
         first, last = int(found["first"]), int(found["last"])
         change = None if found["reply"] == SAME else Change(last, found["reply"])
         self.of(event, Way(found["way"])).add(range(first, last + 1), change)
+        return ""
 
     def rows(self, events: Iterable[Event]) -> list[Row]:
         return [Row(it, {way: self.of(it, way) for way in Way}) for it in events]
 
-    @property
-    def has_some(self) -> bool:
-        return any(it.known for it in self.tried.values())
-
     def count(self, event: Event, way: Way, moves: range) -> int:
         """How many of these moves are known."""
         return sum(len(common(it, moves)) for it in self.of(event, way).known)
-
-
-def event_of(found: "re.Match[str]") -> Event:
-    return Event(int(found["event"]), int(found["turn"]), found["text"])
 
 
 @dataclass(frozen=True)
@@ -188,8 +170,8 @@ def events_of(machine: Machine, moves: Moves, named: Sequence[int]) -> list[Even
 
 def tried(
     machine: Machine, matters: Matters, results: Results, hands: int
-) -> Iterator[tuple[Task, Optional[Change]]]:
-    """What comes of each task, as it comes."""
+) -> Iterator[str]:
+    """The lines of what comes of each task, as it comes."""
     moves, trial = matters.moves, Trial(machine, matters.moves)
     stride, hands = sparse_stride(moves.end), min(hands, 3 * len(matters.events))
     with Progress(matters.count - matters.known(results), "moves") as progress:
@@ -197,7 +179,7 @@ def tried(
             farthest = moves.runs(task.event, task.way).stop
             done = (farthest if change else task.runs.stop) - task.runs.start
             progress.step(min(done, progress.total - progress.done))
-            yield task, change
+            yield results.add(task, change)
 
 
 def lines_of(
@@ -205,23 +187,8 @@ def lines_of(
 ) -> Iterator[str]:
     machine, moves = explorer.machine, matters.moves
     results = Results(matters.heading(machine), machine.script)
-    file = ResultFile(results, path, "matters") if path else None
-    stopped = ""
-    try:
-        for task, change in tried(machine, matters, results, hands) if matters.events else ():
-            line = results.add(task, change)
-            if file:
-                file.add(line)
-    except KeyboardInterrupt:
-        stopped = "stopped"
-    except ExploreError as error:
-        if not results.has_some:
-            raise
-        stopped = str(error)
-    finally:
-        if file:
-            file.close()
-    INTERRUPTS.again()
+    work = tried(machine, matters, results, hands) if matters.events else ()
+    stopped = stopped_work(results, work, path)
     rows = results.rows(matters.events)
     yield from table(moves.question, moves.reply, rows, moves.is_near, moves.until)
     if matters.left_out:
@@ -244,11 +211,8 @@ def parts_of(machine: Machine, matters: Matters) -> Iterator[str]:
 
 
 def gathered(paths: Sequence[str]) -> Iterator[str]:
-    if not paths:
-        raise ExploreError("the form is: matters --gather FILE ..")
-    results = Results("")
-    for path in paths:
-        results.read(Path(path))
+    results = Results()
+    read_files(results, paths)
     heading = HEADING.fullmatch(results.heading)
     if heading is None:
         raise ExploreError(f"{paths[0]} has no results")
@@ -278,17 +242,11 @@ def matters_command(explorer: Explorer, arguments: Arguments) -> Iterator[str]:
     nearest of these, and the last line the nearest of all that was found. REPLY is the reply as it
     is shown, with or without its first word and zeros before numbers; `..` stands for anything.
     -j N, -o FILE, -y, --jobs FILE and --gather FILE .. are those of `sweep`."""
-    words = arguments.text("words")
-    wrong = quote_fault(words)
-    if wrong:
-        raise ExploreError(wrong)
-    if words_of(words)[0] == "--gather":
-        yield from gathered(files_of(words)[1:])
+    options = WorkOptions(arguments.text("words"), ["-y"])
+    if options.gathered is not None:
+        yield from gathered(options.gathered)
         return
-    options = WorkOptions(words, ["-y"])
-    head, colon, question = options.words.partition(":")
-    question = explorer.symbols.line_in_octal(question, explorer.machine)
-    matters = Matters.of(explorer.machine, f"{head}{colon}{question}")
+    matters = Matters.of(explorer.machine, options.line(explorer))
     options.check(explorer, "matters", matters.most_runs, "moves")
     jobs = options.path("--jobs")
     if jobs:
@@ -303,5 +261,4 @@ def raw_lines(explorer: Explorer, text: str) -> Iterator[str]:
     matters = Matters.of(explorer.machine, text)
     results = Results(matters.heading(explorer.machine))
     yield results.heading
-    for task, change in tried(explorer.machine, matters, results, 1):
-        yield results.add(task, change)
+    yield from tried(explorer.machine, matters, results, 1)

@@ -7,11 +7,11 @@ from ..core.errors import ExploreError
 from ..core.language import explanation
 from ..core.past import Event
 from ..core.values import dataclass, field
-from .sought_reply import in_one_line, is_reply
-from .unnoticed import Unnoticed
+from .sought_reply import is_reply
+from .sweep import in_one_line
+from .unnoticed import unnoticed
 
 FIRST_BLOCK, LARGEST_BLOCK = 16, 256  # moves that are tried in one task
-LOOKED_AT_ONCE = 1_024  # moves whose turns are looked at together
 
 
 class Way(Enum):
@@ -152,8 +152,6 @@ class Trial:
 
     def __init__(self, machine: Machine, moves: Moves):
         self.moves, self.version = moves, machine.setup.version
-        self.unnoticed = Unnoticed(machine)
-        self.looked_at: dict[tuple[Event, Way, int], frozenset[int]] = {}
         self.of_turns: dict[int, list[Event]] = {}
         for event in machine.script:
             self.of_turns.setdefault(event.turn, []).append(event)
@@ -199,13 +197,13 @@ class Trial:
         """The moves of a task but for those that make the same run as the one before: both put a
         key in turns that follow one another, of which the first doesn't notice it, and the second
         has no event of its own and comes before the end."""
-        unnoticed = self.not_noticing(twin, task)
+        not_noticing = self.not_noticing(twin, task)
         for shift in task.runs:
             turns = {self.moves.turn(task, it) for it in (shift - 1, shift)}
             second = max(turns)
             is_same_run = (
                 shift != task.runs.start
-                and min(turns) in unnoticed
+                and min(turns) in not_noticing
                 and second not in self.of_turns
                 and second < self.moves.end
             )
@@ -213,24 +211,13 @@ class Trial:
                 yield shift
 
     def not_noticing(self, twin: Machine, task: Task) -> frozenset[int]:
-        """The turns of the task's moves that don't notice the key of its event, and maybe others:
-        none if it is no key."""
+        """The turns of the task's moves that don't notice the key of its event: none if it is no
+        key."""
         if task.way is Way.DROPPED or not task.event.text.startswith("key "):
             return frozenset()
-        first, last = ((it - 1) // LOOKED_AT_ONCE for it in (task.runs[0], task.runs[-1]))
-        return frozenset().union(*(self.look(twin, task, it) for it in range(first, last + 1)))
-
-    def look(self, twin: Machine, task: Task, part: int) -> frozenset[int]:
-        """The same of one part of the moves of the task's event in its way."""
-        key = task.event, task.way, part
-        if key not in self.looked_at:
-            runs = self.moves.runs(task.event, task.way)
-            part_of_them = range(part * LOOKED_AT_ONCE + 1, (part + 1) * LOOKED_AT_ONCE + 1)
-            shifts = common(runs, part_of_them)
-            ends = sorted(self.moves.turn(task, it) for it in (shifts[0], shifts[-1]))
-            list(twin.ask_all([f"alter {task.event.number} {LAST_TURN} {task.event.text}"]))
-            self.looked_at[key] = self.unnoticed.of(twin, range(ends[0], ends[1] + 1))
-        return self.looked_at[key]
+        first, last = sorted(self.moves.turn(task, it) for it in (task.runs[0], task.runs[-1]))
+        list(twin.ask_all([f"alter {task.event.number} {LAST_TURN} {task.event.text}"]))
+        return unnoticed(twin, range(first, last + 1))
 
     def near(self, twin: Machine, task: Task) -> Optional[Change]:
         """Tries moves that double until one changes the reply, and then those halfway to it."""

@@ -16,7 +16,8 @@ from .crew import Progress, stopped_by
 from .explorer import Explorer
 from .moves import named_events
 from .script import event_line
-from .sought_reply import in_one_line, is_reply, question_and_reply, reply_of_turn
+from .sought_reply import is_reply, question_and_reply, reply_of_turn
+from .sweep import in_one_line
 from .sweep_fades import end_of
 
 FORM = "reduce [E ..]: QUESTION [=|!= REPLY]"

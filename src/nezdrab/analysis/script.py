@@ -1,4 +1,4 @@
-"""Events and the past: `events`, `save`, `type`."""
+"""Events and the past, `events`, `save`, `type`; what is to be printed next, `expect`."""
 import re
 from bisect import bisect_left
 from itertools import islice
@@ -9,12 +9,13 @@ from ..core.engine import LAST_TURN, Machine, in_parts, is_refused
 from ..core.errors import ExploreError
 from ..core.files import write_whole
 from ..core.hardware import DELAYS
-from ..core.in_words import counted, some_are
+from ..core.in_words import counted, some_are, span
 from ..core.options import option_lines, options_of_words
 from ..core.past import MOST_EVENTS, Event
 from ..core.replies import Devices
 from ..core.sessions import words_of
-from .command import Arguments, command, turns_between
+from ..core.visible import visible_bytes
+from .command import END_OF_RUN, Arguments, command, turns_between
 from .explorer import Explorer
 
 EVENTS_AT_ONCE = 1000
@@ -211,3 +212,47 @@ def type_text(explorer: Explorer, arguments: Arguments) -> Iterator[str]:
     except ExploreError as error:
         keys_are = some_are(typed, len(keys), "key")
         raise ExploreError(f"{error}; {keys_are} typed") from error
+
+
+EXPECTED_TURNS = 100_000_000
+LAST_SHOWN = 40  # bytes
+
+
+def instead(explorer: Explorer, turns: range, string: bytes) -> str:
+    """What the machine did in these turns: the end of what it printed, whether it halted, and
+    whether it had printed the string before."""
+    before = explorer.machine.text(turns.start)
+    printed = explorer.machine.text_from(turns.stop, len(before))
+    end = visible_bytes(printed[-LAST_SHOWN:]).decode().replace("\r", "\\r").replace("\n", "\\n")
+    said = f"what is printed there ends with '{end}'" if printed else "nothing is printed there"
+    if explorer.machine.registers(turns.stop).state == "halted":
+        said += ", and the processor is halted"
+    return f"{said}; it was printed before turn {turns.start}" if string in before else said
+
+
+@command(
+    "expect TEXT [within N]",
+    r"<text:text>( within <count:decimal>)?",
+    "goes on to where TEXT has been printed",
+)
+def expect(explorer: Explorer, arguments: Arguments) -> Iterator[str]:
+    """Goes on from the current turn to the first turn before which TEXT has been printed, all of
+    it since the current turn. That turn is then the current one: `type` without `from` types
+    there, and the next `expect` looks behind this TEXT, which is written as in `type`. At most N
+    turns are run, without `within` 100000000, which may take a second or more. If TEXT doesn't come
+    the line can't be done, and the current turn stays. It is exact."""
+    string = bytes(typed_bytes(arguments.text("text")))
+    count = arguments.decimal("count", EXPECTED_TURNS)
+    if not string or not count:
+        raise ExploreError("N of within is 1 or more" if string else "TEXT has no byte")
+    turns = range(explorer.turn, min(explorer.turn + count, LAST_TURN))
+    if not turns:
+        raise ExploreError(END_OF_RUN)
+    text = arguments.text("text")
+    found = explorer.finder.printed_in(turns, string)
+    if found is None:
+        more = instead(explorer, turns, string)
+        raise ExploreError(f"'{text}' isn't printed in {span(turns)}; {more}")
+    turn, length = found
+    explorer.turn = turn + 1
+    yield f"turn {turn}: byte {length} of the text is printed, the last of '{text}'"

@@ -15,7 +15,10 @@ LARGEST_WORD = 0o177777
 
 
 def word_of(arguments: Arguments, name: str) -> int:
-    word = arguments.octal(name)
+    return checked_word(arguments.octal(name))
+
+
+def checked_word(word: int) -> int:
     if word > LARGEST_WORD:
         raise ExploreError(f"{word:o} is more than a word has, {LARGEST_WORD:o}")
     return word

@@ -8,7 +8,7 @@ from ..core.errors import ExploreError
 from ..core.language import explanation
 from ..core.sessions import words_of
 from ..core.symbols import Symbols
-from .sweep import check_question
+from .sweep import check_question, in_one_line
 
 OF_TEXTS = ("text ", "punched ")
 NUMBER = re.compile(r"0*([0-9]+)")
@@ -58,7 +58,3 @@ def reply_of_turn(machine: Machine, question: str) -> str:
         why = explanation(question, reply, machine.setup.version)
         raise ExploreError(f"{question}: {reply}: {why}")
     return in_one_line(reply)
-
-
-def in_one_line(reply: str) -> str:
-    return reply.replace("\n", " / ")

@@ -3,26 +3,23 @@ import hashlib
 import re
 from contextlib import closing
 from pathlib import Path
-from typing import Container, Iterator, Optional, Sequence
+from typing import Iterator, Optional, Sequence
 
-from ..core import sessions
-from ..core.asked import stride_before
-from ..core.engine import Machine, is_refused
+from ..core import sessions, sweeping
+from ..core.engine import Machine
 from ..core.errors import ExploreError
 from ..core.in_words import counted, some_are
-from ..core.interrupts import INTERRUPTS
-from ..core.language import MOST_DIGITS, SEARCHES, comma_fault, explanation, is_decimal, is_edit
+from ..core.language import MOST_DIGITS, SEARCHES, comma_fault, is_decimal, is_edit
 from ..core.past import Event
 from ..core.sessions import words_of
 from ..core.values import dataclass, field
 from .command import Arguments, check_turn, command
 from .crew import Progress, each_of
 from .explorer import Explorer
-from .quotes import files_of, quote_fault
-from .result_files import ResultFile, job_lines, kept_in
+from .long_work import job_lines, kept_in, read_files, stopped_work
 from .script import past_lines
 from .sweep_fades import HEADING, Fades, end_of, parted, together
-from .work_options import WorkOptions
+from .long_work import WorkOptions
 
 SWEEP = re.compile(
     r"(?P<fades>--fades )?(?P<event>[0-9]{1,10}|[a-z].*?)"
@@ -35,14 +32,23 @@ JOBS = 64
 
 @dataclass
 class Sweep:
-    """An event, a new one or one of the script, the turns that it is put at, and what is asked."""
+    """An event, a new one or one of the script, with what is asked; the turns that it is put at."""
 
-    event: str
-    moved: Optional[Event]
+    placed: sweeping.Sweep
     turns: range
-    question: str
     fades: Optional[Fades] = None
-    numbers: dict[int, int] = field(default_factory=dict)  # of the new event, by its twin
+
+    @property
+    def event(self) -> str:
+        return self.placed.event
+
+    @property
+    def moved(self) -> Optional[Event]:
+        return self.placed.moved
+
+    @property
+    def question(self) -> str:
+        return self.placed.lines[0]
 
     @classmethod
     def of(cls, machine: Machine, text: str) -> "Sweep":
@@ -67,46 +73,19 @@ class Sweep:
             raise ExploreError(f"turn {match['last']} comes before turn {match['first']}")
         check_question(question)
         fades = Fades(end_of(question)) if match["fades"] else None
-        return cls(event, moved, turns, question, fades)
+        return cls(sweeping.Sweep(machine, event, moved, [question]), turns, fades)
 
     def check(self, machine: Machine) -> None:
         """Tries the event and the question, once, on a twin."""
         with closing(machine.twin()) as twin:
-            self.with_event(twin, f"at {self.turns[0]} {self.event}")
+            self.placed.part(twin, [self.turns[0]])
 
     def row(self, twin: Machine, turn: int) -> str:
         """The reply with the event at this turn, and with --fades where the edit fades."""
-        reply = self.work(twin, turn)
+        ((reply,),) = self.placed.part(twin, [turn])
         word = "at" if self.moved is None else f"alter {self.moved.number}"
-        return reply + (self.fades.of(twin, f"{word} {turn} {self.event}") if self.fades else "")
-
-    def work(self, twin: Machine, turn: int) -> str:
-        """The reply with the event at this turn. A twin has the event once, and moves it on. Back
-        in its own turn it would be the last of its events: there a further twin has it unmoved."""
-        number = self.moved.number if self.moved else self.numbers.get(id(twin))
-        edit = f"{'at' if number is None else f'alter {number}'} {turn} {self.event}"
-        if self.moved and self.moved.turn == turn:
-            with closing(twin.twin()) as unmoved:
-                return self.with_event(unmoved, edit)[1]
-        edited, reply = self.with_event(twin, edit)
-        if number is None:
-            self.numbers[id(twin)] = int(edited.split()[1])
-        return reply
-
-    def with_event(self, twin: Machine, edit: str) -> tuple[str, str]:
-        """The replies to an edit and the question, in one line each. An error if one is refused."""
-        lines = [edit, self.question]
-        replies = list(twin.ask_all(lines))
-        for line, reply in zip(lines, replies):
-            if is_refused(reply):
-                why = explanation(line, reply, twin.setup.version)
-                raise ExploreError(f"{line}: {reply}: {why}")
-        edited, reply = (it.replace("\n", " / ") for it in replies)
-        return edited, reply
-
-    def stride(self) -> Optional[int]:
-        """The stride of its twins."""
-        return stride_before(self.turns[0], self.question)
+        fades = self.fades.of(twin, f"{word} {turn} {self.event}") if self.fades else ""
+        return in_one_line(reply) + fades
 
     def heading(self, machine: Machine) -> str:
         """What results are of: the event, the question and the past. The turns may be others."""
@@ -119,6 +98,10 @@ def digest_of(machine: Machine) -> str:
     """What tells a past from others: a digest of the options and the edits."""
     past = "\n".join([*machine.start.options, *past_lines(machine)])
     return hashlib.sha256(past.encode(errors="surrogateescape")).hexdigest()[:16]
+
+
+def in_one_line(reply: str) -> str:
+    return reply.replace("\n", " / ")
 
 
 def check_question(question: str) -> None:
@@ -146,7 +129,8 @@ class Run:
 class Results:
     """Replies by turn, in lines `TURN REPLY` of a file after a heading."""
 
-    heading: str
+    work = "sweep"
+    heading: str = ""
     replies: dict[int, str] = field(default_factory=dict)
     known: dict[str, str] = field(default_factory=dict)
 
@@ -154,27 +138,17 @@ class Results:
         """Equal replies are kept as one text."""
         self.replies[turn] = self.known.setdefault(reply, reply)
 
-    def read(self, path: Path) -> None:
-        """Adds what a file has. A last line without its end was cut off, and counts for nothing."""
-        try:
-            self.take(path, path.read_text(errors="replace"))
-        except OSError as error:
-            raise ExploreError(f"{path}: {error.strerror}") from error
+    def __len__(self) -> int:
+        return len(self.replies)
 
-    def take(self, path: Path, text: str) -> None:
-        """Adds what the text of a file has."""
-        for number, line in enumerate(text.split("\n")[:-1], 1):
-            self.heading = self.heading or line
-            turn, _, reply = line.partition(" ")
-            if line.startswith("#"):
-                if line != self.heading:
-                    raise ExploreError(
-                        f"{path}:{number}: of another sweep, or of another past: {line}"
-                    )
-            elif is_decimal(turn) and len(turn) <= MOST_DIGITS and reply:
-                self.add(int(turn), reply)
-            else:
-                raise ExploreError(f"{path}:{number}: no line of a sweep")
+    def take(self, line: str) -> str:
+        turn, _, reply = line.partition(" ")
+        if line.startswith("#"):
+            return "" if line == self.heading else f"of another sweep, or of another past: {line}"
+        if not is_decimal(turn) or len(turn) > MOST_DIGITS or not reply:
+            return "no line of a sweep"
+        self.add(int(turn), reply)
+        return ""
 
     def lines(self, step: int) -> Iterator[str]:
         """Runs of turns with equal replies, each `step` turns after the one before."""
@@ -193,10 +167,9 @@ class Results:
         yield f"{counted(len(self.replies), 'turn')}, {counted(len(runs), 'run')} of equal replies"
 
 
-def swept(
-    machine: Machine, sweep: Sweep, known: Container[int], hands: int
-) -> Iterator[tuple[int, str]]:
+def swept(machine: Machine, sweep: Sweep, results: Results, hands: int) -> Iterator[str]:
     """The turns that aren't known yet, with their replies, as they come."""
+    known = results.replies
     count = sum(1 for it in sweep.turns if it not in known) if known else len(sweep.turns)
     wanted = (it for it in sweep.turns if it not in known)
     if not count:
@@ -204,9 +177,11 @@ def swept(
     hands = min(hands, count)
     with Progress(count, "turns") as progress:
         try:
-            for turn, reply in each_of(machine, wanted, sweep.row, hands, sweep.stride()):
+            stride = sweep.placed.stride(sweep.turns[0])
+            for turn, reply in each_of(machine, wanted, sweep.row, hands, stride):
                 progress.step()
-                yield turn, reply
+                results.add(turn, reply)
+                yield f"{turn} {reply}"
         finally:
             if sweep.fades:
                 sweep.fades.close()
@@ -217,23 +192,7 @@ def sweep_lines(
 ) -> Iterator[str]:
     machine = explorer.machine
     results = Results(sweep.heading(machine))
-    file = ResultFile(results, path, "sweep") if path else None
-    stopped = ""
-    try:
-        for turn, reply in swept(machine, sweep, results.replies, hands):
-            results.add(turn, reply)
-            if file:
-                file.add(f"{turn} {reply}")
-    except KeyboardInterrupt:
-        stopped = "stopped"
-    except ExploreError as error:
-        if not results.replies:
-            raise
-        stopped = str(error)
-    finally:
-        if file:
-            file.close()
-    INTERRUPTS.again()
+    stopped = stopped_work(results, swept(machine, sweep, results, hands), path)
     results.replies = {turn: it for turn, it in results.replies.items() if turn in sweep.turns}
     yield from results.lines(sweep.turns.step)
     if stopped:
@@ -255,11 +214,8 @@ def parts_of(machine: Machine, sweep: Sweep) -> Iterator[str]:
 
 
 def gathered(paths: Sequence[str]) -> Iterator[str]:
-    if not paths:
-        raise ExploreError("the form is: sweep --gather FILE ..")
-    results = Results("")
-    for path in paths:
-        results.read(Path(path))
+    results = Results()
+    read_files(results, paths)
     turns = sorted(results.replies)
     steps = [after - before for before, after in zip(turns, turns[1:])]
     step = min(steps, default=1)
@@ -286,18 +242,12 @@ def sweep_command(explorer: Explorer, arguments: Arguments) -> Iterator[str]:
     of QUESTION. For turns with equal replies it names the first and the last of these turns.
     --jobs FILE writes commands for GNU parallel instead, on this machine or on others with the same
     folders, and --gather FILE .. reads what they have written."""
-    words = arguments.text("words")
-    wrong = quote_fault(words)
-    if wrong:
-        raise ExploreError(wrong)
-    if words_of(words)[0] == "--gather":
-        yield from gathered(files_of(words)[1:])
+    options = WorkOptions(arguments.text("words"), ("-y", "--fades"))
+    if options.gathered is not None:
+        yield from gathered(options.gathered)
         return
-    options = WorkOptions(words, ("-y", "--fades"))
-    head, colon, question = options.words.partition(":")
-    question = explorer.symbols.line_in_octal(question, explorer.machine)
     fades = "--fades " if options.has("--fades") else ""
-    sweep = Sweep.of(explorer.machine, f"{fades}{head}{colon}{question}")
+    sweep = Sweep.of(explorer.machine, fades + options.line(explorer))
     options.check(explorer, "sweep", len(sweep.turns), "turns")
     jobs = options.path("--jobs")
     if jobs:
@@ -311,5 +261,4 @@ def raw_lines(explorer: Explorer, text: str) -> Iterator[str]:
     """The sweep of one job: a heading, and each turn with its reply."""
     sweep = Sweep.of(explorer.machine, text)
     yield sweep.heading(explorer.machine)
-    for turn, reply in swept(explorer.machine, sweep, (), 1):
-        yield f"{turn} {reply}"
+    yield from swept(explorer.machine, sweep, Results(), 1)

@@ -1,11 +1,9 @@
 """What a value is made of: `why`."""
 import itertools
-from pathlib import Path
 from typing import Iterator, NamedTuple, Sequence
 
 from ..core.engine import Machine
 from ..core.errors import ExploreError
-from ..core.files import write_whole
 from ..core.in_words import counted
 from ..core.values import dataclass
 from .account import MOST_ENDS, Account, ranges
@@ -18,7 +16,6 @@ from .labels import events_with_data
 from .operands import pointer_of
 from .origins import Graph, Kind, Origin, Origins
 from .steps import Step, Steps
-from .why_graph import drawn
 
 ASKED = ("[core] A", "disk [D] I", "R", "text [C]")
 ELSEWHERE = "a write that went to another address, and might have come here, isn't found"
@@ -135,10 +132,10 @@ def change_lines(account: Account, what: Asked, turn: int) -> Iterator[str]:
 
 
 @command(
-    "  or  ".join(f"why {it} [at N] [steps C] [places] [graph FILE]" for it in ASKED),
+    "  or  ".join(f"why {it} [at N] [steps C] [places]" for it in ASKED),
     r"((?P<register>[Rr][0-5]|[KUku]?[Ss][Pp]|[Pp][Ss]|[NZVC])|(?P<text>text)( <count:decimal>)?"
     r"|(?P<disk>disk) ((?P<drive>[0-7]) )?<index:octal>|(core )?<address:address>)"
-    r"( at <turn:decimal>)?( steps <steps:decimal>)?(?P<places> places)?( graph <file:file>)?",
+    r"( at <turn:decimal>)?( steps <steps:decimal>)?(?P<places> places)?",
     "what a word, a register or the end of the text is made of",
 )
 def why(explorer: Explorer, arguments: Arguments) -> Iterator[str]:
@@ -150,7 +147,7 @@ def why(explorer: Explorer, arguments: Arguments) -> Iterator[str]:
     the end stand the events that the value is made of. 'Made of' is of data: what a branch decided
     isn't followed, and at which address a value was only with `places`. After 2000 steps, or C of
     `steps`, the rest isn't followed, nor is a register further back than 20000 turns: both are
-    said. `graph` writes the steps as an SVG, and `why!` overwrites one."""
+    said. The page draws the turns of these steps."""
     machine, turn = explorer.machine, arguments.decimal("turn", explorer.turn)
     what, most = asked(explorer, arguments, turn), arguments.decimal("steps", MOST_STEPS)
     if not most:
@@ -168,8 +165,4 @@ def why(explorer: Explorer, arguments: Arguments) -> Iterator[str]:
     yield from [ELSEWHERE] if origins.places else []
     if what.cells and is_of_drive(what.cells[0]) and graph.is_whole:
         yield from change_lines(account, what, turn)
-    if arguments.optional("file"):
-        path = Path(arguments.text("file"))
-        write_whole(path, drawn(account, f"What {what.name} was made of before turn {turn}"))
-        yield f"the graph is in {path}"
     explorer.turn = turn

@@ -1,8 +1,9 @@
 """All words of core and of a drive: the questions about them, and which of them differ or are
-written."""
+written; images of them."""
+import struct
 from typing import Iterable, Iterator, Optional, Sequence
 
-from .engine import MOST_WORDS, SHORT_SENT_AHEAD, Machine
+from .engine import MOST_WORDS, SHORT_SENT_AHEAD, Machine, in_parts
 from .hardware import DRIVE_WORDS
 from .options import UNIT_BYTES
 from .replies import LastWrite, words_of
@@ -12,13 +13,26 @@ DRIVES = 8  # of version 2
 Pair = tuple[int, int, int]
 
 
+def core_lines(turn: int, places: range) -> list[str]:
+    """The questions about the words of core at these addresses, 256 words each."""
+    return [f"mem {turn} {it[0]:o} {len(it)}" for it in in_parts(places, MOST_WORDS)]
+
+
+def drive_lines(machine: Machine, turn: int, drive: int, places: range) -> list[str]:
+    """The same about these words of a drive."""
+    parts = in_parts(places, MOST_WORDS)
+    return [machine.disk_line(turn, drive, it[0], len(it)) for it in parts]
+
+
 def memory_lines(machine: Machine, turn: int, drive: Optional[int] = None) -> list[str]:
     """The questions about all words of core before the turn, or of a drive."""
     if drive is not None:
-        places = range(0, DRIVE_WORDS, MOST_WORDS)
-        return [machine.disk_line(turn, drive, at, MOST_WORDS) for at in places]
-    top = machine.setup.units * UNIT_BYTES
-    return [f"mem {turn} {at:o} {MOST_WORDS}" for at in range(0, top, 2 * MOST_WORDS)]
+        return drive_lines(machine, turn, drive, range(DRIVE_WORDS))
+    return core_lines(turn, range(0, machine.setup.units * UNIT_BYTES, 2))
+
+
+def words_in(replies: Iterable[str]) -> Iterator[int]:
+    return (word for reply in replies for word in words_of(reply))
 
 
 def differing(replies: Iterable[Sequence[str]]) -> Iterator[Pair]:
@@ -49,3 +63,21 @@ def written(machine: Machine, turns: range, words: range) -> dict[int, range]:
     lasts = map(LastWrite.of, machine.read_all(lines, SHORT_SENT_AHEAD))
     pairs = ((it, last) for it, last in zip(words, lasts) if last and last.turn >= turns.start)
     return {it: range(turns.start, last.turn + 1) for it, last in pairs}
+
+
+def parsed(replies: Iterator[str]) -> Iterator[list[int]]:
+    """The words of replies. Most of them are zeros, which are not read one by one."""
+    zeros = " 000000" * MOST_WORDS
+    for reply in replies:
+        yield [0] * MOST_WORDS if reply[3:] == zeros else words_of(reply)
+
+
+def core_words(machine: Machine, turn: int) -> list[int]:
+    """All of core before the turn."""
+    replies = machine.read_all(memory_lines(machine, turn))
+    return [word for words in parsed(replies) for word in words]
+
+
+def drive_image(machine: Machine, turn: int, drive: int) -> bytes:
+    replies = machine.read_all(memory_lines(machine, turn, drive))
+    return b"".join(struct.pack(f"<{MOST_WORDS}H", *words) for words in parsed(replies))

@@ -4,11 +4,13 @@ there is no relocation. Then come text, data, their relocation, and the symbols:
 bytes, a type and a value each. 2.11BSD has symbols of eight bytes, with names in a table after
 them. A long of the PDP-11 has its high word first."""
 import struct
+from pathlib import Path
 from typing import Iterator
 
 from .errors import ExploreError
 from .in_words import counted
-from .symbol_files import NAME_OF_FILE, Symbol
+from .kinds import check_known, content
+from .symbol_files import NAME_OF_FILE, Symbol, SymbolFile, symbol_file
 from .values import dataclass
 
 HEAD = struct.Struct("<8H")
@@ -140,3 +142,28 @@ def string_at(names: bytes, at: int) -> bytes:
     """The name that begins at this byte, or nothing if none does."""
     end = names.find(b"\0", at) if 4 <= at < len(names) else -1
     return names[at:end] if end >= 0 else b""
+
+
+OF_PROGRAM = "an a.out"
+
+
+def names_of(path: Path) -> SymbolFile:
+    """The names in a file, which has one at least."""
+    data = content(path)
+    check_known(path, data)
+    if begins_as_aout(data):
+        try:
+            program = program_of(data)
+            found = SymbolFile(OF_PROGRAM, program.symbols, 0, program.odd_in_words)
+        except ExploreError as error:
+            raise ExploreError(f"{path}: {error}") from None
+    else:
+        found = symbol_file(data.decode(errors="replace"))
+    if not found.symbols and found.kind == OF_PROGRAM:
+        raise ExploreError(f"{path} is {OF_PROGRAM} without symbols")
+    if not found.symbols:
+        raise ExploreError(
+            f"{path} has no symbol: no line is NAME OCTAL, OCTAL NAME, NAME=OCTAL or one of nm,"
+            " and it is no listing and no map"
+        )
+    return found

@@ -1,12 +1,10 @@
 """The machine that the program runs, with its edits."""
-import os
 from contextlib import contextmanager, suppress
 from pathlib import Path
-from typing import Iterator, Optional, Sequence, TypeVar
+from typing import TYPE_CHECKING, Iterator, Optional, Sequence, TypeVar
 
 from .asked import Asked
-from .children import ProgramEnded
-from .edit_file import EditFile
+from .program import ProgramEnded
 from .errors import ExploreError
 from .interrupts import INTERRUPTS
 from .language import explanation, is_edit
@@ -17,6 +15,9 @@ from .replies import SPACES, Devices, LastWrite, Mode, Pages, Registers, Turn, T
 from .replies import accesses_of, listed, text_of, turns_of, words_of
 from .sessions import first_word
 from .values import dataclass, field, replace
+
+if TYPE_CHECKING:
+    from .journal import Journal
 
 LAST_TURN = 1_000_000_000
 MOST_TURNS_OF_A_TRAIL = 64
@@ -94,7 +95,7 @@ class Machine:
     journal: list[str] = field(default_factory=list)
     replies: list[str] = field(default_factory=list)
     is_closed: bool = False
-    file: Optional[EditFile] = None
+    file: "Optional[Journal]" = None
     asked: Asked = field(default_factory=Asked)
     seconds: Optional[float] = None  # that the replies to lines sent together may take
 
@@ -417,6 +418,14 @@ class Machine:
         self.asked.turn = turns.start
         return found, range(turns.stop if is_all else found[-1].turn.turn + 1, turns.stop)
 
+    def accesses_of(self, turns: range) -> Iterator[TurnAccesses]:
+        """The same of all these turns."""
+        for part in in_parts(turns, MOST_TURNS_OF_A_TRAIL):
+            left = range(part[0], part[-1] + 1)
+            while left:
+                found, left = self.accesses(left)
+                yield from found
+
     def listed(self, line: str, turns: range) -> tuple[list[str], range]:
         """The lines that a search of these turns lists, which begin with a turn each, and the turns
         that are left."""
@@ -447,9 +456,3 @@ class Machine:
         """These turns, by as many trails as it takes. A reply of a trail has some 1,300 bytes."""
         for reply in self.read_all(self.trail_lines(first, count)):
             yield from turns_of(reply)
-
-
-def existing_program(path: str) -> str:
-    if not os.access(path, os.X_OK):
-        raise ExploreError(f"{path}: no such program")
-    return os.path.abspath(path)

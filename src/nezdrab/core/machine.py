@@ -7,6 +7,7 @@ import os
 import re
 import weakref
 from contextlib import contextmanager
+from functools import partial
 from heapq import merge
 from pathlib import Path
 from typing import Any, Iterable, Iterator, NoReturn, Optional, Sequence, SupportsIndex
@@ -165,7 +166,7 @@ class Machine(Trials):
         modes, kernel and user without any; returns how many there are. Files are those of explore's
         command `symbols`. Those that are relocatable count from `base`. A NezdrabError if the file
         can't be read, or has no name."""
-        from .names import names_of  # which reads all of explore
+        from .aout import names_of  # which reads all of explore
 
         found = [it.moved(base) for it in names_of(Path(path)).symbols]
         self.symbols.add(found, [Mode(it) for it in modes] or [Mode.KERNEL, Mode.USER])
@@ -368,11 +369,8 @@ class Machine(Trials):
         place = self._place(address)
         if is_register(place):
             return items_at(writes_at, self._engine, since, until, place)
-
-        def found(begin: int) -> Found[LastWrite]:
-            return self.ask(questions.writes(address, since=begin, until=until))
-
-        return going_on(found, operator.index(since), lambda it: it.turn + 1)
+        found = partial(questions.writes, address, until=until)
+        return going_on(lambda it: self.ask(found(since=it)), operator.index(since), behind)
 
     def writes_in(
         self, begin: Address, end: Address, *, until: SupportsIndex, since: SupportsIndex = 0
@@ -397,11 +395,8 @@ class Machine(Trials):
         place = self._place(address)
         if is_register(place):
             return items_at(reads_at, self._engine, since, until, place)
-
-        def found(begin: int) -> Found[WordRead]:
-            return self.ask(questions.reads(address, since=begin, until=until))
-
-        return going_on(found, operator.index(since), lambda it: it.turn + 1)
+        found = partial(questions.reads, address, until=until)
+        return going_on(lambda it: self.ask(found(since=it)), operator.index(since), behind)
 
     log = log
 
@@ -433,11 +428,8 @@ class Machine(Trials):
         self, *, until: SupportsIndex, since: SupportsIndex = 0
     ) -> Iterator[Transfer]:
         """The functions of the disk that are done in the range, in their order."""
-
-        def found(begin: int) -> Found[Transfer]:
-            return self.ask(questions.transfers(since=begin, until=until))
-
-        return going_on(found, operator.index(since), lambda it: it.turn + 1)
+        found = partial(questions.transfers, until=until)
+        return going_on(lambda it: self.ask(found(since=it)), operator.index(since), behind)
 
     def changes(
         self,
@@ -464,11 +456,8 @@ class Machine(Trials):
     ) -> Iterator[int]:
         """The addresses of the words of core from `begin` to `end`, that one too, that are this
         word before the turn, or agree with it in the bits of the mask."""
-
-        def found(at: int) -> Found[int]:
-            return self.ask(questions.find(turn, at, end, word, mask=mask))
-
-        return going_on(found, self._number(begin), lambda it: it + 2)
+        found = partial(questions.find, turn, end=end, word=word, mask=mask)
+        return going_on(lambda it: self.ask(found(it)), self._number(begin), lambda it: it + 2)
 
     def finddsk(
         self,
@@ -481,11 +470,13 @@ class Machine(Trials):
         drive: Optional[SupportsIndex] = None,
     ) -> Iterator[int]:
         """As `find`, the numbers of the words of the drive."""
+        found = partial(questions.finddsk, turn, end=end, word=word, mask=mask, drive=drive)
+        return going_on(lambda it: self.ask(found(it)), operator.index(begin), lambda it: it + 1)
 
-        def found(at: int) -> Found[int]:
-            return self.ask(questions.finddsk(turn, at, end, word, mask=mask, drive=drive))
 
-        return going_on(found, operator.index(begin), lambda it: it + 1)
+def behind(it: Union[LastWrite, WordRead, Transfer]) -> int:
+    """The turn after that of something found."""
+    return it.turn + 1
 
 
 def end_of_its_process(engine: Engine, process: int) -> None:

@@ -1,18 +1,56 @@
-"""The program search as a child process: each line that goes in gets one reply."""
+"""Programs that read lines from a pipe and write lines to one; and the program search, of which
+each line that goes in gets one reply."""
 import os
 import re
 import select
+import subprocess
 import time
 from pathlib import Path
 from typing import Callable, Optional, Sequence
 
 from . import sessions
-from .children import Child, ProgramEnded
 from .errors import ExploreError
 from .values import dataclass, field
 
 CONTROL = re.compile(r"[\0-\x08\n-\x1f\x7f]")  # all but the tab, which separates words
 PIPE_BYTES, LONGEST_SHOWN = 65_536, 60
+
+
+class ProgramEnded(ExploreError):
+    """The program isn't there any more."""
+
+
+class Child:
+    """A running program. The Ctrl-C of the terminal doesn't reach it."""
+
+    def __init__(self, command: Sequence[str], folder: Optional[Path] = None):
+        pipe = subprocess.PIPE
+        try:
+            self.process = subprocess.Popen(
+                command, cwd=folder, start_new_session=True, stdin=pipe, stdout=pipe, stderr=pipe
+            )
+        except OSError as error:
+            raise ExploreError(f"{command[0]} can't be started: {error.strerror}") from error
+        assert self.process.stdin and self.process.stdout and self.process.stderr
+        self.given, self.written = self.process.stdin, self.process.stdout
+        self.said = self.process.stderr
+
+    def ended(self) -> ProgramEnded:
+        """How the program ended, and what it said."""
+        self.process.kill()
+        said = self.said.read().decode(errors="replace").strip()
+        status = self.process.wait()
+        reason = f": {said}" if said else ""
+        return ProgramEnded(f"the program ended with status {status}{reason}")
+
+    def close(self) -> None:
+        self.process.kill()
+        self.process.wait()
+        for pipe in (self.given, self.written, self.said):
+            try:
+                pipe.close()
+            except OSError:
+                pass
 
 
 class OutOfStep(ProgramEnded):

@@ -37,6 +37,15 @@ def release() -> str:
     return found
 
 
+def program_of(name: str, given: Optional[str]) -> str:
+    """The path of the program that is given, or else of the one of this name that is found."""
+    if not given:
+        return found_program(name)
+    if not os.access(given, os.X_OK):
+        raise ExploreError(f"{given}: no such program")
+    return os.path.abspath(given)
+
+
 def found_program(name: str) -> str:
     """The path of the program of this name: the one beside the package; in a clone the one that its
     sources give, which is built first if it must be; `nezdrab-NAME` on PATH; or the one beside the

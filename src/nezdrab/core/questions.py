@@ -28,6 +28,7 @@ from .replies import accesses_of, listed, text_of, turns_of, words_of
 from .values import dataclass
 
 Answer = TypeVar("Answer")
+Item = TypeVar("Item")
 Address = Union[int, SupportsIndex, str]
 ModeName = Union[Mode, str]
 # What gives the number of an address, whose name is one of a mode if there is a mode.
@@ -94,6 +95,20 @@ def of_drive(drive: Optional[SupportsIndex]) -> str:
 def turn_or_none(reply: str) -> Optional[int]:
     word = reply.split()[1]
     return None if word == "none" else int(word)
+
+
+def all_of(of: Callable[[str], Item]) -> Callable[[str], Found[Item]]:
+    """What a reply lists, a line each, and whether that is all."""
+
+    def read(reply: str) -> Found[Item]:
+        lines, is_all = listed(reply)
+        return Found(list(map(of, lines)), is_all)
+
+    return read
+
+
+def octal_of(word: str) -> int:
+    return int(word, 8)
 
 
 def line(text: str) -> Question[str]:
@@ -294,13 +309,8 @@ def writes(
 ) -> Question[Found[LastWrite]]:
     """The turns of the range that write a word of core, the first 256 of them or some more; of a
     turn that writes it more than once the last write. Machine.writes gives all."""
-
-    def read(reply: str) -> Found[LastWrite]:
-        lines, is_all = listed(reply)
-        return Found([LastWrite.of_line(it) for it in lines], is_all)
-
     turns = f"{decimal(since)} {decimal(until)}"
-    return at_address(lambda it: f"writes {turns} {it}", address, read)
+    return at_address(lambda it: f"writes {turns} {it}", address, all_of(LastWrite.of_line))
 
 
 def reads(
@@ -308,24 +318,14 @@ def reads(
 ) -> Question[Found[WordRead]]:
     """The turns of the range that read a word of core, the first 256 of them or some more; of a
     turn that reads it more than once the first read. Machine.reads gives all."""
-
-    def read(reply: str) -> Found[WordRead]:
-        lines, is_all = listed(reply)
-        return Found([WordRead.of(it) for it in lines], is_all)
-
     turns = f"{decimal(since)} {decimal(until)}"
-    return at_address(lambda it: f"reads {turns} {it}", address, read)
+    return at_address(lambda it: f"reads {turns} {it}", address, all_of(WordRead.of))
 
 
 def transfers(*, until: SupportsIndex, since: SupportsIndex = 0) -> Question[Found[Transfer]]:
     """The functions of the disk that are done in the range, the first 256 of them or some more.
     Machine.transfers gives all."""
-
-    def read(reply: str) -> Found[Transfer]:
-        lines, is_all = listed(reply)
-        return Found([Transfer.of(it) for it in lines], is_all)
-
-    return one(f"transfers {decimal(since)} {decimal(until)}", read)
+    return one(f"transfers {decimal(since)} {decimal(until)}", all_of(Transfer.of))
 
 
 def change(
@@ -376,11 +376,6 @@ def masked(mask: Optional[SupportsIndex]) -> str:
     return "" if mask is None else f" mask {octal(mask)}"
 
 
-def addresses_of(reply: str) -> Found[int]:
-    lines, is_all = listed(reply)
-    return Found([int(it, 8) for it in lines], is_all)
-
-
 def find(
     turn: SupportsIndex,
     begin: Address,
@@ -397,7 +392,7 @@ def find(
         ends = f"{octal(number(begin, None))} {octal(number(end, None))}"
         return [f"find {decimal(turn)} {ends} {what}"]
 
-    return Question(lines, lambda replies: addresses_of(replies[0]))
+    return Question(lines, lambda replies: all_of(octal_of)(replies[0]))
 
 
 def finddsk(
@@ -412,7 +407,7 @@ def finddsk(
     """As `find`, the numbers of words of the drive. Machine.finddsk gives all."""
     ends = f"{octal(begin)} {octal(end)}"
     before = f"finddsk {decimal(turn)} {of_drive(drive)}"
-    return one(f"{before}{ends} {octal(word)}{masked(mask)}", addresses_of)
+    return one(f"{before}{ends} {octal(word)}{masked(mask)}", all_of(octal_of))
 
 
 def fades(turn: SupportsIndex, edit: str) -> Question[Optional[int]]:

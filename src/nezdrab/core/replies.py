@@ -43,6 +43,16 @@ def hash_of(it: object) -> int:
     return hash(tuple(fields))
 
 
+class Register:
+    """A register of the processor among the others, as `answer.r0`."""
+
+    def __init__(self, name: str):
+        self.name = name
+
+    def __get__(self, registers: "Registers", of: type) -> int:
+        return registers.words[self.name]
+
+
 @dataclass(frozen=True)
 class Registers:
     """The reply of `regs`."""
@@ -50,6 +60,8 @@ class Registers:
     words: dict[str, int]
     state: str
 
+    r0, r1, r2, r3, r4, r5 = map(Register, ("R0", "R1", "R2", "R3", "R4", "R5"))
+    ksp, usp, pc, ps = map(Register, ("KSP", "USP", "PC", "PS"))
     __hash__ = hash_of
 
     @classmethod
@@ -61,49 +73,9 @@ class Registers:
         return self.words[name]
 
     @property
-    def r0(self) -> int:
-        return self.words["R0"]
-
-    @property
-    def r1(self) -> int:
-        return self.words["R1"]
-
-    @property
-    def r2(self) -> int:
-        return self.words["R2"]
-
-    @property
-    def r3(self) -> int:
-        return self.words["R3"]
-
-    @property
-    def r4(self) -> int:
-        return self.words["R4"]
-
-    @property
-    def r5(self) -> int:
-        return self.words["R5"]
-
-    @property
-    def ksp(self) -> int:
-        return self.words["KSP"]
-
-    @property
-    def usp(self) -> int:
-        return self.words["USP"]
-
-    @property
     def sp(self) -> int:
         """R6 of the mode; each mode without one of its own has that of the kernel."""
         return self.usp if self.mode is Mode.USER else self.ksp
-
-    @property
-    def pc(self) -> int:
-        return self.words["PC"]
-
-    @property
-    def ps(self) -> int:
-        return self.words["PS"]
 
     @property
     def mode(self) -> Mode:
@@ -259,7 +231,7 @@ class WordRead:
         return cls(int(turn), reader, int(word, 8))
 
 
-INSTRUCTION, INTERRUPT = "instr", "irq"
+INSTRUCTION, INTERRUPT, IDLE = "instr", "irq", "idle"
 
 
 @dataclass(frozen=True)
@@ -294,7 +266,7 @@ class CycleKind(Enum):
     BYTE = "byte"
 
 
-CYCLES, TIMEOUT = {it.value for it in CycleKind}, "timeout"
+CYCLES, TIMEOUT = {it.value: it for it in CycleKind}, "timeout"
 
 
 @dataclass(frozen=True)
@@ -312,7 +284,7 @@ class BusCycle:
     def of(cls, line: str) -> "BusCycle":
         kind, *place, address, value = line.split()
         word = None if value == TIMEOUT else int(value, 8)
-        return cls(CycleKind(kind), int(address, 8), bool(place), word)
+        return cls(CYCLES[kind], int(address, 8), bool(place), word)
 
     def line(self) -> str:
         """The line of the reply."""
@@ -341,20 +313,18 @@ class TurnAccesses:
     def of(cls, lines: list[str]) -> "TurnAccesses":
         head, *others = lines
         number, mode, rest = head.split(" ", 2)
-        rows = [it.split(" ", 1) for it in others]
-
-        def named(name: str) -> list[str]:
-            return [row for kind, row in rows if kind == name]
-
-        return cls(
-            Turn.of(f"{number} {rest}"),
-            Mode(mode),
-            named("event"),
-            bytes(int(it, 8) for it in named("printed")),
-            bytes(int(it, 8) for it in named("punched")),
-            next(iter(named("disk")), None),
-            [BusCycle.of(it) for it, (kind, _) in zip(others, rows) if kind in CYCLES],
-        )
+        rows: dict[str, list[str]] = {"event": [], "printed": [], "punched": [], "disk": []}
+        cycles: list[BusCycle] = []
+        for line in others:
+            kind, _, row = line.partition(" ")
+            if kind in CYCLES:
+                cycles.append(BusCycle.of(line))
+            else:
+                rows[kind].append(row)
+        events, *out, done = rows.values()
+        printed, punched = (bytes(int(it, 8) for it in part) for part in out)
+        named = Turn.of(f"{number} {rest}"), Mode(mode), events, printed, punched
+        return cls(*named, next(iter(done), None), cycles)
 
 
 def accesses_of(reply: str) -> tuple[list[TurnAccesses], bool]:

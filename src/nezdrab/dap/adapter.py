@@ -9,13 +9,11 @@ from typing import Optional, Union
 from ..core.errors import ExploreError
 from ..core.interrupts import INTERRUPTS
 from ..shell.output import Unwritable, fault_in_words
-from . import going_requests, point_requests, session_requests, shown_requests  # noqa: F401
-from .client import Client
-from .fields import Fields
+from . import point_requests, session_requests, shown_requests  # noqa: F401
+from .client import REQUESTS, Client
 from .launch import Programs
 from .running import Stop
-from .table import REQUESTS
-from .wire import BadMessage, Object, OutOfStep, Wire
+from .wire import BadMessage, Fields, Object, OutOfStep, Wire
 
 # What ends the work under way, and all that was asked before it, if that takes longer than this.
 ENDING, SECONDS = ("pause", "cancel", "disconnect", "terminate"), 1.0

@@ -1,4 +1,5 @@
-"""An editor as it is connected: what it was told, what it may still name, and what it debugs."""
+"""An editor as it is connected: what it was told, what it may still name, and what it debugs. And
+the table of requests, to which each module of requests adds its own."""
 from contextlib import suppress
 from typing import Any, Callable, Optional
 
@@ -12,7 +13,7 @@ from .frames import Frame, KnownCalls, frames
 from .launch import Launched, Programs
 from .points import Points
 from .running import Run, Stop
-from .wire import Object
+from .wire import Fields, Object
 
 THREAD = 1
 
@@ -182,3 +183,18 @@ class Client:
     def close(self) -> None:
         if self.debuggee is not None and not self.is_terminated:
             self.debuggee.close()
+
+
+# Does a request, and returns the body of the reply, if it has one.
+Request = Callable[[Client, Fields], Optional[Object]]
+REQUESTS: dict[str, Request] = {}
+
+
+def request(name: str) -> Callable[[Request], Request]:
+    """Adds the function to the table."""
+
+    def register(function: Request) -> Request:
+        REQUESTS[name] = function
+        return function
+
+    return register

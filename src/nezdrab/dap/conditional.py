@@ -5,100 +5,46 @@ import re
 from typing import Callable, Iterator, Optional
 
 from ..analysis.breakpoints import Breakpoint
-from ..analysis.finder import Finder
 from ..core.engine import LAST_TURN, Machine
 from ..core.errors import ExploreError
 from ..core.values import dataclass
 
 
-def holds_before(machine: Machine, turn: int, condition: str) -> bool:
-    return turn < LAST_TURN and machine.found("first", range(turn, turn + 1), condition) is not None
-
-
 @dataclass(frozen=True)
-class ConditionalWrite(Breakpoint):
-    """A write of the core word, if the condition, in the words of a search, holds after it."""
+class Conditional(Breakpoint):
+    """Another breakpoint, if the condition, in the words of a search, holds: before the turn, or of
+    an access after it. From a turn where it doesn't the search goes on where it holds next."""
 
     condition: str = ""
 
+    @property
+    def lag(self) -> int:
+        return 0 if self.address is None else 1
+
+    def holds(self, machine: Machine, turn: int) -> bool:
+        before = turn + self.lag
+        looked = range(before, before + 1)
+        return before < LAST_TURN and machine.found("first", looked, self.condition) is not None
+
     def first(self, machine: Machine, turns: range) -> Optional[int]:
-        """From a write after which it doesn't hold the search goes on where it holds next."""
-        finder, address = Finder(machine), self.address or 0
-        while turns:
-            write = finder.next_write(turns, address)
-            if write is None or holds_before(machine, write.turn + 1, self.condition):
-                return None if write is None else write.turn
-            after = range(min(write.turn + 2, LAST_TURN), min(turns.stop + 1, LAST_TURN))
-            then = machine.found("first", after, self.condition)
+        found, lag = super().first(machine, turns), self.lag
+        while found is not None and not self.holds(machine, found):
+            later = range(found + 1 + lag, min(turns.stop + lag, LAST_TURN))
+            then = machine.found("first", later, self.condition) if later else None
             if then is None:
                 return None
-            before = machine.last(then, address)
-            if before is not None and before.turn == then - 1:
-                return before.turn
-            turns = range(then, turns.stop)
-        return None
+            found = super().first(machine, range(then - lag, turns.stop))
+        return found
 
     def last(self, machine: Machine, turns: range) -> Optional[int]:
-        """The turns before which the condition holds and the writes before these, in turn."""
-        stop, address = min(turns.stop + 1, LAST_TURN), self.address or 0
-        while stop > turns.start + 1:
-            held = machine.found("latest", range(turns.start + 1, stop), self.condition)
-            write = machine.last(held, address) if held is not None else None
-            if write is None or write.turn < turns.start:
+        found, lag = super().last(machine, turns), self.lag
+        while found is not None and not self.holds(machine, found):
+            earlier = range(turns.start + lag, found + lag)
+            then = machine.found("latest", earlier, self.condition) if earlier else None
+            if then is None:
                 return None
-            if write.turn + 1 == held or holds_before(machine, write.turn + 1, self.condition):
-                return write.turn
-            stop = write.turn + 1
-        return None
-
-
-@dataclass(frozen=True)
-class ConditionalTurn(Breakpoint):
-    """What is sought, if the condition, in the words of a search, holds before the same turn."""
-
-    condition: str = ""
-
-    def first(self, machine: Machine, turns: range) -> Optional[int]:
-        while turns:
-            found = machine.found("first", turns, self.sought)
-            if found is None or holds_before(machine, found, self.condition):
-                return found
-            then = machine.found("first", range(found + 1, turns.stop), self.condition)
-            turns = range(turns.stop if then is None else then, turns.stop)
-        return None
-
-    def last(self, machine: Machine, turns: range) -> Optional[int]:
-        while turns:
-            found = machine.found("latest", turns, self.sought)
-            if found is None or holds_before(machine, found, self.condition):
-                return found
-            then = machine.found("latest", range(turns.start, found), self.condition)
-            turns = range(turns.start, turns.start if then is None else then + 1)
-        return None
-
-
-@dataclass(frozen=True)
-class ConditionalAccess(Breakpoint):
-    """A read of the word, or an access of the register, if the condition, in the words of a search,
-    holds after it."""
-
-    condition: str = ""
-
-    def first(self, machine: Machine, turns: range) -> Optional[int]:
-        while turns:
-            found = super().first(machine, turns)
-            if found is None or holds_before(machine, found + 1, self.condition):
-                return found
-            turns = range(found + 1, turns.stop)
-        return None
-
-    def last(self, machine: Machine, turns: range) -> Optional[int]:
-        while turns:
-            found = super().last(machine, turns)
-            if found is None or holds_before(machine, found + 1, self.condition):
-                return found
-            turns = range(turns.start, found)
-        return None
+            found = super().last(machine, range(turns.start, then - lag + 1))
+        return found
 
 
 HIT = re.compile(r"\s*(==|=|>=|<=|>|<|%)?\s*([0-9]{1,9})\s*")

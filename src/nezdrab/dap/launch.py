@@ -3,24 +3,23 @@ import argparse
 import os
 import shlex
 from pathlib import Path
-from typing import Iterator, Optional
+from typing import Iterator
 
 from ..analysis.command import check_turn
-from ..analysis.disassembly import Disassembler
+from ..analysis.disassembly import disassembler_of
 from ..analysis.explorer import Explorer
-from ..core.engine import LAST_TURN, Machine, Start, existing_program
+from ..core.engine import LAST_TURN, Machine, Start
 from ..core.errors import ExploreError
+from ..core.journal import Journal, session_line
 from ..core.options import FILES, NUMBERS, check_session, option_lines, words_of_options
-from ..core.programs import found_program
+from ..core.programs import program_of
 from ..core.session_file import refused_lines
 from ..core.values import dataclass
 from ..shell.command_line import check_options, options_of
 from ..shell.commands import COMMANDS
-from ..shell.journal import OF_SESSION, Journal
 from ..shell.load import warnings_of
-from .fields import Fields
 from .sources import Sources, mode_of
-from .wire import Object
+from .wire import Fields, Object
 
 
 @dataclass(frozen=True)
@@ -29,14 +28,6 @@ class Programs:
 
     search: str = ""
     disassemble: str = ""
-
-    def of_search(self) -> str:
-        return existing_program(self.search) if self.search else found_program("search")
-
-    def of_disassemble(self) -> str:
-        if self.disassemble:
-            return existing_program(self.disassemble)
-        return found_program("disassemble")
 
 
 @dataclass
@@ -105,13 +96,10 @@ def started(fields: Fields, programs: Programs) -> tuple[Explorer, list[str]]:
     options = options_of(given, session)
     check_options(options, given, session)
     said = list(warnings_of(options))
+    disassembler = disassembler_of(programs.disassemble, said.append)
     try:
-        disassembler = Disassembler(programs.of_disassemble())
-    except ExploreError as error:
-        disassembler = Disassembler(None)
-        said.append(f"{error}; instructions are shown as words")
-    try:
-        machine = Machine(Start(programs.of_search(), words_of_options(options), Path.cwd()))
+        search = program_of("search", programs.search)
+        machine = Machine(Start(search, words_of_options(options), Path.cwd()))
     except BaseException:
         disassembler.close()
         raise
@@ -122,13 +110,8 @@ def started(fields: Fields, programs: Programs) -> tuple[Explorer, list[str]]:
         close(explorer)
         raise
     explorer.steps.count, explorer.saved = len(machine.journal), list(machine.journal)
-    machine.file = Journal([*option_lines(options), of_session(session)], is_own=True)
+    machine.file = Journal([*option_lines(options), session_line(session)], is_own=True)
     return explorer, said
-
-
-def of_session(session: Optional[Path]) -> str:
-    """The line of a journal that names the session."""
-    return f"{OF_SESSION}{session or 'none'}".replace("\n", " ")
 
 
 def close(explorer: Explorer) -> None:

@@ -9,9 +9,8 @@ from ..analysis.listing import INSTRUCTION_WORDS, PHYSICAL, VIRTUAL, Listed, ins
 from ..core.errors import ExploreError
 from ..core.replies import Mode
 from ..core.values import dataclass
-from .fields import Fields
 from .sources import Place, Sources, source
-from .wire import Object
+from .wire import Fields, Object
 
 MODE_BITS, ADDRESS = 24, 0xFFFFFF
 SPACES: dict[Optional[Mode], int] = {None: 0, Mode.KERNEL: 1, Mode.USER: 3}

@@ -5,14 +5,12 @@ from ..analysis.explorer import Explorer
 from ..core.errors import ExploreError
 from ..core.places import REGISTERS, is_register, place_of
 from . import memory
-from .client import Client
+from .client import Client, request
 from .evaluate import before
-from .fields import Fields
 from .points import ACCESSES, DATA, FUNCTIONS, INSTRUCTIONS, LINES, VECTORS
 from .sources import Place
-from .table import request
 from .variables import Scope, variables
-from .wire import Object
+from .wire import Fields, Object
 
 
 def each_set(

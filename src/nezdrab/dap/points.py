@@ -3,19 +3,18 @@ import os
 import re
 from typing import Callable, Iterator
 
-from ..analysis.breaking import condition_sought
+from ..analysis.breaking import condition_sought, set_break, set_catch, set_watch
 from ..analysis.breakpoints import Breakpoint
 from ..analysis.explorer import Explorer
 from ..core.errors import ExploreError
 from ..core.expressions import Before
 from ..core.hardware import INTERRUPTS
-from ..core.replies import SPACES
+from ..core.places import register_of
+from ..core.replies import SPACES, Mode
 from ..core.values import dataclass, field, replace
-from ..shell.commands import COMMANDS
-from .conditional import ConditionalAccess, ConditionalTurn, ConditionalWrite, Counted, check_hit
-from .fields import Fields
+from .conditional import Conditional, Counted, check_hit
 from .sources import Place, Sources, source
-from .wire import Object
+from .wire import Fields, Object
 
 LINES, FUNCTIONS, INSTRUCTIONS = "breakpoint", "function breakpoint", "instruction breakpoint"
 DATA, VECTORS = "data breakpoint", "exception"  # groups are named by the reasons of a stop
@@ -28,7 +27,9 @@ TRAPS = {
     0o34: "TRAP",
     0o250: "memory management",
 }
-ACCESSES = {"write": ("watch",), "read": ("rwatch",), "readWrite": ("watch", "rwatch")}
+# Of each kind of access the breakpoints that it takes: whether each is at reads.
+ACCESSES = {"write": (False,), "read": (True,), "readWrite": (False, True)}
+NAMED = re.compile(r"(?:(user|kernel)[ \t]+)?(.*)", re.DOTALL)
 
 
 def filters() -> Iterator[Object]:
@@ -69,23 +70,23 @@ class Points:
         gone = {it for it, of in self.groups.items() if of == group and self.paths[it] == key}
         points[:] = [it for it in points if it.number not in gone]
 
-    def added(self, line: str, group: str, path: str = "") -> Breakpoint:
-        """A new one, by a line of explore that sets one."""
-        word, _, rest = line.partition(" ")
-        list(COMMANDS[word].lines(self.explorer, rest))
-        point = self.explorer.breakpoints.points[-1]
+    def added(self, point: Breakpoint, group: str, path: str = "") -> Breakpoint:
+        """Notes a new one."""
         self.groups[point.number], self.paths[point.number] = group, os.path.realpath(path)
         self.editors[point.number] = point.number
         return point
 
     def at(self, place: Place, condition: str, group: str, path: str = "") -> Breakpoint:
-        mode = f"{place.mode.value} " if place.mode in SPACES and place.mode else ""
-        text = f" if {condition}" if condition else ""
-        return self.added(f"break {mode}{place.address:o}{text}", group, path)
+        mode = place.mode.value if place.mode in SPACES and place.mode else ""
+        condition = condition.strip(" \t")
+        return self.added(set_break(self.explorer, place.address, mode, condition), group, path)
 
-    def replace(self, point: Breakpoint) -> None:
-        """Puts this one in the place of the last."""
-        self.explorer.breakpoints.points[-1] = point
+    def with_condition(self, point: Breakpoint, condition: str, sought: str) -> None:
+        """Puts one that holds under a condition in the place of this one, if there is one."""
+        if sought:
+            points, text = self.explorer.breakpoints.points, f"{point.text} if {condition}"
+            named = point.number, text, point.sought, point.address, point.is_read
+            points[points.index(point)] = Conditional(*named, condition=sought)
 
     def made(self, fields: Fields, make: Callable[[Fields], Object]) -> Object:
         """What the editor gets to know of a new one, which may count its hits and log."""
@@ -118,12 +119,12 @@ class Points:
 
     def of_function(self, fields: Fields) -> Object:
         """A name is of the mode that alone has it; `user NAME` and `kernel NAME` name one."""
-        name, condition = fields.text("name").strip(), fields.text("condition", "")
-        numbers = self.explorer.symbols.numbers
-        modes = [it.value for it, names in numbers.items() if name in names]
-        mode = f"{modes[0]} " if len(modes) == 1 else ""
-        text = f" if {condition}" if condition else ""
-        return {"id": self.added(f"break {mode}{name}{text}", FUNCTIONS).number}
+        mode, name = NAMED.findall(fields.text("name").strip())[0]
+        symbols = self.explorer.symbols
+        modes = [it for it, names in symbols.numbers.items() if name in names]
+        only = Mode(mode) if mode else modes[0] if len(modes) == 1 else None
+        place = Place(only, symbols.number(name, only))
+        return {"id": self.at(place, fields.text("condition", ""), FUNCTIONS).number}
 
     def of_instruction(self, fields: Fields, place: Place) -> Object:
         return {"id": self.at(place, fields.text("condition", ""), INSTRUCTIONS).number}
@@ -138,15 +139,12 @@ class Points:
         if access not in ACCESSES:
             raise ExploreError(f"'{access}' is no accessType: {', '.join(ACCESSES)}")
         sought = condition_sought(self.explorer, [condition]) if condition else ""
+        place = register_of(self.explorer.machine, int(address[1], 8))
         numbers: list[int] = []
-        for word in ACCESSES[access]:
-            it = self.added(f"{word} {address[1]}", DATA)
+        for is_read in ACCESSES[access]:
+            it = self.added(set_watch(self.explorer, place, is_read), DATA)
             numbers.append(it.number)
-            if sought:
-                is_write = not it.is_read and not it.is_of_register
-                kind = ConditionalWrite if is_write else ConditionalAccess
-                named = it.number, f"{it.text} if {condition}", "", it.address, it.is_read
-                self.replace(kind(*named, condition=sought))
+            self.with_condition(it, condition, sought)
         self.editors.update((it, numbers[0]) for it in numbers)
         return {"id": numbers[0]}
 
@@ -154,12 +152,9 @@ class Points:
         if name not in {it["filter"] for it in filters()}:
             raise ExploreError(f"there is no filter '{name}'")
         sought = condition_sought(self.explorer, [condition]) if condition else ""
-        point = self.added(f"catch {name}", VECTORS)
-        if sought:
-            text = f"{point.text} if {condition}"
-            self.replace(
-                ConditionalTurn(point.number, text, point.sought, condition=sought)
-            )
+        kind, vector = name.split()
+        point = self.added(set_catch(self.explorer, kind, int(vector, 8)), VECTORS)
+        self.with_condition(point, condition, sought)
         return {"id": point.number}
 
     # What a stop says
@@ -170,4 +165,3 @@ class Points:
 
     def editors_numbers(self, points: list[Breakpoint]) -> list[int]:
         return list(dict.fromkeys(self.editors.get(it.number, it.number) for it in points))
-

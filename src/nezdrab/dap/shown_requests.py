@@ -3,14 +3,12 @@ from functools import partial
 
 from ..shell.prompt import Ended
 from . import memory
-from .client import Client
+from .client import Client, request
 from .evaluate import done, targets, watched
-from .fields import Fields
 from .frames import Frame, shown
 from .running import Stop
-from .table import request
 from .variables import SCOPES, Scope, edit_for, variables
-from .wire import Object
+from .wire import Fields, Object
 
 
 @request("stackTrace")

@@ -7,8 +7,7 @@ from ..core.errors import ExploreError
 from ..core.replies import Mode
 from ..core.symbol_files import SOURCE, TABLE
 from ..core.values import dataclass, field
-from .fields import Fields
-from .wire import Object
+from .wire import Fields, Object
 
 MOST_LINES_ON = 32  # to the next line with words
 MODES = {it.value: it for it in (Mode.KERNEL, Mode.USER)}

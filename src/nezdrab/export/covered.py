@@ -1,4 +1,4 @@
-"""Which lines of a listing ran, and how often: `covered`."""
+"""Which lines of a listing ran, and how often: `covered`, and the tracefiles of lcov."""
 import re
 from pathlib import Path
 from typing import Iterator, Optional, Sequence
@@ -8,6 +8,7 @@ from ..analysis.command import Arguments, check_even, command, turns_between
 from ..analysis.counting import Place, counts_at
 from ..analysis.explorer import Explorer
 from ..analysis.listing import VIRTUAL
+from ..analysis.routines import in_one_word
 from ..core.engine import Machine
 from ..core.errors import ExploreError
 from ..core.files import OUTPUT, write_whole
@@ -15,7 +16,7 @@ from ..core.in_words import counted, span
 from ..core.kinds import content
 from ..core.replies import Mode
 from ..core.symbol_files import SOURCE
-from ..core.values import dataclass
+from ..core.values import dataclass, field
 
 NEVER, NO_CODE = "#####", "-"
 NAME = re.compile(r"[A-Za-z0-9.$_]+")
@@ -144,3 +145,61 @@ def covered(explorer: Explorer, arguments: Arguments) -> Iterator[str]:
         yield from coverage.marked()
     where = f"; the lines are in {out}" if out is not None else ""
     yield f"{coverage.sum_in_words()} in {span(turns)}, in {mode.value} mode{where}"
+
+
+@dataclass
+class LineCounts:
+    """A file as a source: how often the instruction of each line ran, by the line's number, and the
+    names of routines by the numbers of their first lines."""
+
+    path: Path
+    counts: dict[int, int] = field(default_factory=dict)
+    names: dict[int, str] = field(default_factory=dict)
+
+    def add(self, explorer: Explorer, turns: range, listing: Listing) -> None:
+        """Adds what ran at the addresses of the listing."""
+        coverage = Coverage.of(explorer.machine, turns, listing)
+        for number, line in enumerate(listing.lines, 1):
+            count = coverage.count(line)
+            if count is None or line.address is None:
+                continue
+            self.counts[number] = self.counts.get(number, 0) + count
+            name = explorer.symbols.names.get((listing.mode, line.address))
+            self.names.update({number: in_one_word(name)} if name else {})
+
+    def lines(self) -> Iterator[str]:
+        """The record of a source."""
+        yield f"SF:{self.path}"
+        for number, name in sorted(self.names.items()):
+            yield f"FN:{number},{name}"
+        for number, name in sorted(self.names.items()):
+            yield f"FNDA:{self.counts[number]},{name}"
+        yield f"FNF:{len(self.names)}"
+        yield f"FNH:{sum(1 for it in self.names if self.counts[it])}"
+        yield from (f"DA:{number},{count}" for number, count in sorted(self.counts.items()))
+        yield f"LF:{len(self.counts)}"
+        yield f"LH:{sum(1 for it in self.counts.values() if it)}"
+        yield "end_of_record"
+
+
+def counted_lines(
+    explorer: Explorer, turns: range, listings: Sequence[Listing]
+) -> list[LineCounts]:
+    """The sources. What several listings say of one file is added."""
+    sources: dict[Path, LineCounts] = {}
+    for listing in listings:
+        path = listing.path.resolve()
+        sources.setdefault(path, LineCounts(path)).add(explorer, turns, listing)
+    return list(sources.values())
+
+
+def tracefile(sources: Sequence[LineCounts]) -> Iterator[str]:
+    yield "TN:"
+    for source in sources:
+        yield from source.lines()
+
+
+def ran_of(sources: Sequence[LineCounts]) -> tuple[int, int]:
+    """How many lines with an instruction ran, and how many there are."""
+    counts = [count for it in sources for count in it.counts.values()]
+    return sum(1 for it in counts if it), len(counts)

@@ -9,7 +9,7 @@ from ..analysis.command import Arguments, turns_between
 from ..analysis.counting import windows_of
 from ..analysis.explorer import Explorer
 from ..analysis.quotes import WORD, file_of
-from ..analysis.work_options import ask_to_begin
+from ..analysis.long_work import ask_to_begin
 from ..core.engine import LAST_TURN
 from ..core.errors import ExploreError
 from ..core.files import OUTPUT, write_whole
@@ -18,8 +18,7 @@ from ..core.language import MOST_DIGITS
 from ..core.replies import Mode
 from ..core.values import dataclass
 from .callgrind import Callgrind, costs_of, folded_lines, remarks, stacks_of
-from .covered import Listing
-from .lcov import counted_lines, ran_of, tracefile
+from .covered import Listing, counted_lines, ran_of, tracefile
 from .vcd import Dump, Word
 
 MOST_WORDS, UNASKED_SECONDS, MEGABYTE = 32, 10, 1_000_000

@@ -5,7 +5,7 @@ from typing import Iterator
 
 from ..analysis.command import Arguments, command
 from ..analysis.explorer import Explorer
-from ..analysis.memory_images import core_words, drive_image
+from ..core.all_words import core_words, drive_image
 from ..core.engine import Machine
 from ..core.files import OUTPUT, write_whole
 from ..core.replies import Devices, Mode, Pages, Registers

@@ -8,23 +8,23 @@ from ..analysis.command import READ, Command
 ENDS = frozenset(("quit", "q", "exit"))  # the words that end explore
 # Which module has which commands, in the order in which the manual page shows them.
 MODULES = {
-    **{"analysis.compare": "compare", "shell.console": "console", "shell.edits": "undo redo drop"},
+    **{"analysis.compare": "compare diff", "shell.console": "console"},
+    **{"shell.edits": "undo redo drop"},
     **{"analysis.listing": "list", "analysis.dump": "dump", "analysis.profile": "profile"},
     **{"shell.load": "load symbols names", "export.covered": "covered"},
-    **{"export.simh_state": "export", "analysis.script": "events save type"},
-    **{"export.page": "page", "analysis.screen": "screen"},
+    **{"export.simh_state": "export", "analysis.script": "events save type expect"},
+    **{"export.web_session": "page", "analysis.screen": "screen"},
     **{"analysis.search": "until next first where", "analysis.stepping": "step back run"},
     "analysis.calls": "calls finish reverse-finish over reverse-over",
     "analysis.breaking": "break watch rwatch catch breakpoints delete continue reverse-continue",
-    **{"analysis.changes": "changes writes", "analysis.difference": "diff"},
-    **{"analysis.follow": "follow"},
+    **{"analysis.changes": "changes writes", "analysis.follow": "follow"},
     **{"analysis.accesses": "accesses", "analysis.lost": "lost", "analysis.sweep": "sweep"},
     **{"analysis.matters": "matters", "analysis.reads": "reads", "analysis.seeing": "see show"},
     **{"analysis.reduce": "reduce", "analysis.branches": "branches"},
     **{"analysis.extremes": "extremes"},
     **{"analysis.why": "why", "shell.images": "core disk", "shell.simh": "import"},
-    **{"shell.defining": "define undefine defines", "shell.display": "display undisplay"},
-    **{"shell.do_file": "do", "analysis.expecting": "expect", "shell.log": "log"},
+    "shell.display": "define undefine defines display undisplay",
+    **{"shell.do_file": "do", "shell.log": "log"},
 }
 
 

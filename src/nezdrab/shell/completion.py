@@ -66,7 +66,7 @@ def is_part(command: Command, words: str, parts: Iterable[str]) -> bool:
 
 def takes_file(words: list[str]) -> bool:
     found = COMMANDS.get(words[0].rstrip("!"))
-    return found is not None and takes(words, found.files)
+    return found is not None and takes(words, found.parts_of("file"))
 
 
 def takes_address(explorer: Explorer, words: list[str]) -> bool:
@@ -75,7 +75,7 @@ def takes_address(explorer: Explorer, words: list[str]) -> bool:
     if words[0] in explorer.definitions.lines:
         return True
     found = COMMANDS.get(words[0])
-    if found is not None and takes(words, found.addresses):
+    if found is not None and takes(words, found.parts_of("address")):
         return True
     if words[-1] in sessions.BEFORE_ADDRESS and any(it in words for it in BEFORE_CONDITION):
         return True

@@ -1,7 +1,10 @@
-"""Words of other debuggers and simulators, gdb, rr and SIMH, and the lines for them here."""
+"""Lines of other debuggers and simulators, gdb, rr and SIMH, and the lines for them here."""
 import re
 
+from ..analysis.explorer import Explorer
 from ..core.engine import LAST_TURN
+from ..core.errors import ExploreError
+from ..core.replies import SPACES, Mode
 from ..core.symbols import ADDRESS
 
 DUMPED = "`dump A C` shows C words from A on, `dump A C instructions` as many instructions"
@@ -34,6 +37,17 @@ GONE = "breakpoint N goes by `delete N`, all by `delete`; `breakpoints` lists th
 EXPECT = "`expect TEXT` goes on to where TEXT has been printed"
 ROUTINES = "`profile N M` shows in which routines the turns were"
 EVALUATE = "`list A 1` shows the word at A as an instruction"
+COMES = "`until PC {a}` finds the turn that comes there"
+NO_REGISTER = (
+    "no line sets a register in a turn; `core A INSTRUCTION` patches the program, and"
+    " `core A W` a word, from power-up on"
+)
+NO_BREAKPOINT = (
+    "no breakpoint is at a register: `until R0 != 5` finds the turn before which R0 isn't 5"
+)
+PAST = "`see {until} {turns}`; nothing has to be switched on for it"
+PARTS = "the registers are in `show`, the calls in `calls`, the breakpoints in `breakpoints`"
+ALL_REGISTERS = "`show` has all registers before turn {turn}"
 
 NAMING = ("watch", "rwatch", "display")  # a register is typed after these without $ too
 # Each sentence has lines of explore, in `such quotes`; with one that it begins with, the word does
@@ -90,6 +104,127 @@ OF_BYTES = ("bytes", "text")
 # What stands for a word that is still to be typed.
 PLACES = re.compile(r"(?<![^ ])(A|C|M|N|V|W|X|FILE|LINE|NAME|TEXT|WORD)(?![^ ])")
 VIRTUAL = "`dump user A C` takes an address of a program, as `dump kernel A C` does"
+# Lines with arguments: the first words, what follows them, and the sentence, with what follows.
+REGISTER = r"\$?(?:r[0-7]|[ku]?sp|pc|psw?)"
+A = rf"[*&]*(?P<a>0x[0-9a-f]{{1,5}}|{ADDRESS})"
+N = "(?P<n>[0-9]{1,9})"
+TO = "(?P<a>[0-7]{1,6})(?:-(?P<last>[0-7]{1,6})|/(?P<bytes>[0-7]{1,6}))?"
+STOP, EXAMINE, DEPOSIT_WORDS = "b br bre break", "e ex exam examine", "dep deposit d set"
+LINES_WITH_ARGUMENTS = [
+    (STOP, rf"{A}(?P<more> if .+)?", "`break {a}{more}`, then `continue`"),
+    ("tb tbreak", rf"{A}(?P<more> if .+)?", f"`break {{a}}{{more}}`, then `continue`; {STAYS}"),
+    ("until", "", OVER),
+    ("until", A, "`until PC {a}`"),
+    ("g go u advance", A, COMES),
+    ("ru j jump", A, f"each turn is there already: {COMES}"),
+    ("goto", N, "`show {n}` shows turn {n}, and makes it the current one"),
+    ("goto", A, COMES),
+    ("s si step stepi", N, "`step {n}`"),
+    ("watch rwatch", REGISTER, NO_BREAKPOINT),
+    ("watch rwatch", A, "`{word} {a}`, then `continue`"),
+    ("awatch", A, "reads and writes have a breakpoint each: `rwatch {a}`, `watch {a}`"),
+    ("disas disassemble l", f"{A}(?:,.*)?", "`list {space} {a} 16`"),
+    ("display", REGISTER, "`display show` shows all registers after each move"),
+    ("display", A, "`display dump {a} 1` shows the word after each move"),
+    ("p print output", f"(?=[*a-z_.]){A}", "`dump {a} 1`"),
+    (f"{EXAMINE} p print output", f"{REGISTER}|st.*|cpu.*", ALL_REGISTERS),
+    (EXAMINE, TO, "`dump {a} {count}`"),
+    (EXAMINE, f"-m {TO}", "`list {a} {count}`"),
+    (EXAMINE, A, "`dump {a} 1`"),
+    (EXAMINE, "(?:rk|tk|tp|pr|pp|lk)[a-z]+|sw?r", "`devices {turn}` has the registers of devices"),
+    ("d", N, "`delete {n}`"),
+    (DEPOSIT_WORDS, rf"(?:var )?\$?(?:pc|r7)[ =]+{A}", "the start is the option --start; " + COMES),
+    (DEPOSIT_WORDS, rf"(?:var )?{REGISTER}[ =].+", NO_REGISTER),
+    (DEPOSIT_WORDS, "sw?r (?P<w>[0-7]{1,6})", "`at {turn} switches {w}` sets them in turn {turn}"),
+    (
+        DEPOSIT_WORDS,
+        rf"(?:-m |var )?(?:\{{\w+\}})?{A}(?: *= *| +)(?P<w>.+)",
+        "`core {a} {w}`, from power-up on: it changes the past",
+    ),
+    ("delete", "br?[a-z]*(?P<more> [0-9]{1,9})?", "`delete{more}` takes breakpoints away"),
+    ("set show sh info i", "(?:cpu +)?hi[a-z]*[ =]*(?P<turns>[0-9]{0,6})", PAST),
+    ("history", "(?P<turns>[0-9]{1,6})", PAST),
+    ("set", "cpu.*", "core has the size of --units N, in units of 8 KB; `setup` shows it"),
+    ("show sh info i", "(?:dev|tt|rk).*", "`devices {turn}`"),
+    ("show sh info i", "(?:cpu|cl).*", "`setup`"),
+    ("show sh info i", "(?:br?|wa)[a-z]*", "`breakpoints`"),
+    ("show sh info i", "mem.*", "`pages {turn}`"),
+    ("info i", "(?:r|all-r).*", "`show`"),
+    ("info i", "(?:f|frame|sta?c?k?)", "`calls`"),
+    ("info i", "d[a-z]*", "`display`"),
+    ("info i", f"(?:sy|li)[a-z]* {A}", "`list {a} 1` has the symbol beside the address"),
+    ("info i", "(?:sy|li).*", "`list A 1` has the symbol beside the address"),
+    ("info i", "fu.*", ROUTINES),
+    ("info i", "va.*", "`symbols FILE` reads names, and `dump A 1` shows the word at one"),
+    ("info i", ".+", PARTS),
+    ("exp", "(?P<more>.+)", "`expect {more}`"),
+    ("send", "(?P<more>.+)", "`type {more}`"),
+    ("next", "", OVER),
+    ("where", "", CALLS),
+]
+
+
+def number_of(explorer: Explorer, text: str) -> str:
+    """An address or a word as it is typed here, or an empty text: `0x200` is 1000, `$pc` the word
+    that PC has. A symbol must be known."""
+    if re.match("0x", text, re.I):
+        return f"{int(text, 16):o}"
+    registers = explorer.machine.registers(explorer.turn)
+    word = {**registers.words, "SP": registers.sp}.get(text[1:].upper())
+    if text[:1] == "$" and word is not None:
+        return f"{word:o}"
+    try:
+        explorer.symbols.number(text)
+    except ExploreError:
+        return ""
+    return text
+
+
+def space_of(explorer: Explorer) -> str:
+    """The mode whose pages a program's address is looked up in."""
+    mode = explorer.machine.registers(explorer.turn).mode
+    return (mode if mode in SPACES else Mode.KERNEL).value
+
+
+def filled(explorer: Explorer, word: str, found: "re.Match[str]", said: str) -> str:
+    """The sentence with these arguments, or an empty text if it names an unknown symbol."""
+    parts = {name: it or "" for name, it in found.groupdict().items()}
+    turn, last, size = explorer.turn, parts.get("last"), parts.get("bytes")
+    if "a" in parts:
+        parts["a"] = number_of(explorer, parts["a"])
+    if re.match("0x", parts.get("w", ""), re.I):
+        parts["w"] = number_of(explorer, parts["w"])
+    if parts.get("a") == "":
+        return ""
+    length = int(last, 8) - int(parts["a"], 8) if last else int(size or "1", 8) - 1
+    turns = parts.setdefault("turns", "") or "20"
+    named = {**parts, "turns": turns, "until": turn or turns, "count": max(1, length // 2 + 1)}
+    return said.format(word=word, turn=turn, space=space_of(explorer), **named)
+
+
+def led_on(explorer: Explorer, word: str, rest: str) -> str:
+    """What to type in place of a line with these arguments, or an empty text. SIMH takes capital
+    letters too."""
+    name, place = word.lower(), rest.lstrip("*&")
+    if "/" in name and name.startswith("display"):
+        name = name.partition("/")[0] if not name.endswith("i") and rest else "layout"
+    elif "/" in name:
+        address = number_of(explorer, place) if re.match(r"\$|0x", place, re.I) else ""
+        line = line_of(examined(name, address)) if address else ""
+        return line and f"`{line.replace('dump', f'dump {space_of(explorer)}', 1)}`"
+    if name == "layout":
+        return DISPLAYED
+    rows = (it for it in LINES_WITH_ARGUMENTS if name in it[0].split())
+    matches = ((re.fullmatch(pattern, rest, re.I), said) for _, pattern, said in rows)
+    sentences = (filled(explorer, name, found, said) for found, said in matches if found)
+    return next(filter(None, sentences), "")
+
+
+def names_register(explorer: Explorer, word: str, rest: str) -> bool:
+    """Whether these words name a register as gdb does, `$pc`, and no symbol has this name."""
+    found = [it for it in rest.split() if re.fullmatch(REGISTER, it, re.I)]
+    named = [it for it in found if it.startswith("$") or word in NAMING and it == rest]
+    return not all(map(explorer.symbols.is_named, named))
 
 
 def examined(word: str, rest: str) -> str:

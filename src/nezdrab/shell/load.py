@@ -6,11 +6,12 @@ from ..analysis.command import Arguments, check_even, command
 from ..analysis.explorer import Explorer
 from ..analysis.restart import make
 from ..core.aout import begins_as_aout, program_of
-from ..core.engine import MOST_WORDS, Machine
+from ..core.all_words import core_lines, words_in
+from ..core.engine import Machine
 from ..core.errors import ExploreError
 from ..core.in_words import counted
 from ..core.kinds import TEXT, begins_as_tape, check_known, content, foreign_of, is_text
-from ..core.names import names_of
+from ..core.aout import names_of
 from ..core.options import FILES, RK05_BYTES, UNIT_BYTES, Options
 from ..core.replies import Mode
 from ..core.symbol_files import Symbol
@@ -100,18 +101,6 @@ def check_place(machine: Machine, places: Iterable[int]) -> None:
         raise ExploreError(f"it goes on to {last:o}, and core ends at {top - 1:o}{drive}")
 
 
-def words_at_power_up(machine: Machine, first: int, last: int) -> dict[int, int]:
-    """The words from the first address to the last one, by image and patches."""
-    counts = [
-        (at, min(MOST_WORDS, (last - at) // 2 + 1)) for at in range(first, last + 2, 2 * MOST_WORDS)
-    ]
-    return {
-        at + 2 * number: word
-        for at, count in counts
-        for number, word in enumerate(machine.words(0, at, count))
-    }
-
-
 def patches_of(machine: Machine, found: dict[int, int]) -> list[str]:
     """The lines that make core so, of the words that aren't so already. The other half of a word of
     which the file has one byte stays."""
@@ -119,7 +108,8 @@ def patches_of(machine: Machine, found: dict[int, int]) -> list[str]:
     places = sorted({it & ~1 for it in found})
     if not places:
         return []
-    before = words_at_power_up(machine, places[0], places[-1])
+    around = range(places[0], places[-1] + 2, 2)
+    before = dict(zip(around, words_in(machine.read_all(core_lines(0, around)))))
     lines = []
     for at in places:
         low, high = found.get(at, before[at] & 0o377), found.get(at + 1, before[at] >> 8)

@@ -16,19 +16,18 @@ from ..core.errors import ExploreError, LineRefused
 from ..core.files import OUTPUT
 from ..core.in_words import counted
 from ..core.interrupts import INTERRUPTS, typed_line
+from ..core.journal import state_folder
 from ..core.language import FADING, FORMS, LISTS, SEARCHES, SUMMARIES, explanation, form_of
 from ..core.language import forms_of_searches, is_decimal, is_edit
 from .commands import COMMANDS, ENDS
 from .completion import HELP, completions
-from .defining import definition_line
-from .display import displays_after_move
-from .foreign import NAMING, line_of, sentence
-from .journal import state_folder
+from .display import definition_line, displays_after_move
+from .foreign import led_on, line_of, names_register, sentence
 from .mapped import MAPPED_HELP, MAPPED_WORDS, in_core
 from .output import LINES, Unwritable, fault_in_words, flush, put
-from .pager import Pager, fit, paragraphs_of
 from .topics import LINES as LINES_OF, SESSION, TOPICS, command_lines, commands_of, forms_in_lines
 from .topics import language_lines, search_lines
+from .wrapping import fit, page, paragraphs_of
 
 BLANKS = " \t"
 INTRODUCTION = "lines of the session language, and help, console, see, until ..; quit ends"
@@ -47,7 +46,7 @@ FADES_HELP = (
     "docs/LANGUAGE.md, Searches"
 )
 # With `!` these overwrite a file that this run hasn't written.
-WRITING = {"save", "page", "export", "sweep", "core", "disk", "covered", "log", "matters", "why"}
+WRITING = {"save", "page", "export", "sweep", "core", "disk", "covered", "log", "matters"}
 # The replies of these lines of the language begin with the turn that they have found.
 FINDING = ("last", "first", "latest", "change", "when", "fades")
 # The commands that an empty line does again.
@@ -101,7 +100,6 @@ class Prompt(Interpreter):
         self.explorer = explorer
         self.echo = echo
         self.is_stopped = self.is_paged = False
-        self.pager = Pager()
         self.at_work = AtWork("")
 
     def show(self, lines: Iterable[str]) -> None:
@@ -143,8 +141,10 @@ class Prompt(Interpreter):
             if name in ENDS:
                 raise Ended(is_dropped=sessions.first_word(line) != name)
             with AtWork(name) as self.at_work, INTERRUPTS.allowed():
-                lines = self.lines_and_displays(line)
-                self.show(self.pager.pages(lines) if name in HELP and self.is_paged else lines)
+                lines: Iterable[str] = self.lines_and_displays(line)
+                if name in HELP and self.is_paged:
+                    lines = [] if page(text := list(lines)) else text
+                self.show(lines)
         except Ended as ended:
             is_ended = self.end(ended.is_dropped)
             self.is_stopped = not is_ended
@@ -169,14 +169,11 @@ class Prompt(Interpreter):
         return is_last
 
     def at_terminal(self, typed: str) -> bool:
-        """Does what was typed, a line or a paste, and what is typed to the pages of help; tells
-        whether a line was the last one. An empty line does again the step right before it."""
-        is_last, self.pager.line = False, typed if typed.strip(BLANKS) else self.repeated
-        while self.pager.line and not is_last:
-            typed, self.pager.line = self.pager.line, ""
-            lines = typed.replace("\r\n", "\n").split("\n")
-            is_last = self.pasted(lines) if len(lines) > 1 else self.alone(lines[0])
-        return is_last
+        """Does what was typed, a line or a paste; tells whether a line was the last one. An empty
+        line does again the step right before it."""
+        typed = typed if typed.strip(BLANKS) else self.repeated
+        first, *others = typed.replace("\r\n", "\n").split("\n")
+        return self.pasted([first, *others]) if others else bool(first) and self.alone(first)
 
     def alone(self, line: str) -> bool:
         """Does a line that was typed alone. Its help has pages."""
@@ -283,10 +280,8 @@ class Prompt(Interpreter):
     def lines_of_other(self, said: str, rest: str, is_done: bool = True) -> Iterator[str]:
         """What a line of gdb or SIMH shows: the sentence about it, and what the line that this
         begins with shows. An error if there is none."""
-        from .habits import VALUE
-
         line = line_of(said, rest) if is_done else ""
-        if not line and not VALUE.match(said):
+        if not line:
             raise ExploreError(said)
         yield said
         yield from self.lines(line)
@@ -295,17 +290,13 @@ class Prompt(Interpreter):
         """The sentence about a line that has the form of gdb or SIMH, and none here."""
         form = COMMANDS[word.rstrip("!")].pattern if is_own(word, rest) else None
         has_form = form is not None and form.fullmatch(rest.strip(BLANKS)) is not None
-        if is_of_language(word) or has_form and "$" not in rest and word not in NAMING:
-            return ""
-        from .habits import led_on, names_register  # which few lines need
-
         is_ours = has_form and not names_register(self.explorer, word, rest)
-        return "" if is_ours else led_on(self.explorer, word, rest)
+        return "" if is_of_language(word) or is_ours else led_on(self.explorer, word, rest)
 
     def is_instruction(self, word: str, rest: str) -> bool:
         if word != "core":
             return False
-        from .patching import is_instruction  # which reads the assembler
+        from .images import is_instruction  # which reads the assembler
 
         return is_instruction(rest, self.explorer.symbols)
 

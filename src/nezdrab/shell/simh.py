@@ -14,7 +14,7 @@ from ..core.kinds import check_known, content
 from ..core.options import MOST_UNITS, fault_of_option
 from ..core.values import dataclass, field
 from .load import counted_patches, loaded, patches_of
-from .simh_lines import Line, Lines, NotHere
+from .simh_lines import Line, Lines, Unusable
 
 MOST_BYTES = 1_048_576  # of a command file
 MOST_KILOBYTES, LEAST_KILOBYTES, UNIT_KILOBYTES = 256, 8, 8
@@ -34,10 +34,6 @@ REGISTERS = re.compile(
 )
 AS_HERE = {"11/40", "eis", "mmu", "nofis", "nofpp", "nocis", "noidle", "enabled"}
 DRIVE = re.compile(r"rk(?P<number>[0-7]?)")  # rk is rk0
-
-
-class Unusable(Exception):
-    """Why a command has no meaning here."""
 
 
 def drive_of(words: list[str]) -> Optional[int]:
@@ -193,39 +189,33 @@ class Imported:
         if drive is None or self.options.pop(option_of(drive), None) is None:
             raise Unusable("no such unit is attached")
 
-    def take_line(self, whole: str, line: str) -> bool:
-        """Takes a command that a line of explore stands for, or tells that this is none."""
-        does: dict[str, Callable[[str, str], None]] = {
-            "send": self.lines.send, "expect": self.lines.expect, "break": self.lines.set_break,
-            "step": self.lines.step,
-        }  # fmt: skip
-        if whole not in does:
-            return False
-        try:
-            does[whole](line, self.command)
-        except NotHere as error:
-            raise Unusable(str(error)) from None
-        self.taken += 1
-        return True
-
     def take(self, line: str) -> None:
         """Takes a command."""
         name, *words = words_of(line)
-        does: dict[str, Callable[[list[str]], None]] = {
-            "attach": self.attach, "set": self.set, "deposit": self.deposit, "boot": self.boot,
-            "go": self.go, "run": self.go, "load": self.load, "detach": self.detach,
-            "continue": self.go_on,
-        }  # fmt: skip
         whole = whole_name(name.lower())
-        if whole in ASKING or self.take_line(whole, line):
+        if whole in ASKING:
             return
-        if whole not in does:
+        if whole in OF_LINES:
+            OF_LINES[whole](self.lines, line, self.command)
+        elif whole in OF_WORDS:
+            switches = [it for it in words if re.fullmatch(r"-[a-zA-Z]+", it)]
+            if whole == "deposit" and switches:
+                raise Unusable(f"a deposit with {switches[0]} can't be read here")
+            OF_WORDS[whole](self, [it for it in words if it not in switches])
+        else:
             raise Unusable("import that file too" if whole == "do" else "it has no meaning here")
-        switches = [it for it in words if re.fullmatch(r"-[a-zA-Z]+", it)]
-        if whole == "deposit" and switches:
-            raise Unusable(f"a deposit with {switches[0]} can't be read here")
-        does[whole]([it for it in words if it not in switches])
         self.taken += 1
+
+
+# What takes a command: the words after it, or the line, for which a line of explore stands.
+OF_WORDS: dict[str, Callable[[Imported, list[str]], None]] = {
+    **{"attach": Imported.attach, "set": Imported.set, "deposit": Imported.deposit},
+    **{"boot": Imported.boot, "go": Imported.go, "run": Imported.go, "load": Imported.load},
+    **{"detach": Imported.detach, "continue": Imported.go_on},
+}
+OF_LINES = {
+    **{"send": Lines.send, "expect": Lines.expect, "break": Lines.set_break, "step": Lines.step}
+}
 
 
 def whole_name(name: str) -> str:

@@ -19,8 +19,8 @@ GOING_ON = frozenset(("c", "co", "cont", "continue", "g", "go", "run", "ru"))
 SENDING = frozenset(("sen", "send"))
 
 
-class NotHere(Exception):
-    """Why a command has no line that stands for it."""
+class Unusable(Exception):
+    """Why a command has no meaning here."""
 
 
 def byte_of(found: "re.Match[str]") -> int:
@@ -30,7 +30,7 @@ def byte_of(found: "re.Match[str]") -> int:
     else:
         byte = ESCAPES.get(escape, ord(escape)) if escape else ord(plain)
     if byte > LARGEST_BYTE:
-        raise NotHere(f"'{found[0]}' is no byte")
+        raise Unusable(f"'{found[0]}' is no byte")
     return byte
 
 
@@ -75,13 +75,13 @@ class Lines:
     def _typed(self, text: str) -> str:
         found = SEND.fullmatch(text)
         if found is None:
-            raise NotHere('its form here is: send "text"')
+            raise Unusable('its form here is: send "text"')
         return f"type {text_in_line(found['text'])}"
 
     def expect(self, text: str, command: str) -> None:
         found = EXPECT.fullmatch(text)
         if found is None:
-            raise NotHere('its form here is: expect "text" send "text"; continue')
+            raise Unusable('its form here is: expect "text" send "text"; continue')
         lines, goes_on = [Line(f"expect {text_in_line(found['text'])}", command)], False
         for action in (it.strip() for it in ACTION.findall(found["actions"])):
             word = action.split(" ")[0].lower()
@@ -90,13 +90,13 @@ class Lines:
             elif word in GOING_ON:
                 goes_on = True
             elif action:
-                raise NotHere(f"'{action}' can't be an action here: send and continue can")
+                raise Unusable(f"'{action}' can't be an action here: send and continue can")
         self.rules.append(Rule(lines, goes_on))
 
     def set_break(self, text: str, command: str) -> None:
         found = BREAK.fullmatch(text)
         if found is None:
-            raise NotHere("its form here is: break A, or break -w A")
+            raise Unusable("its form here is: break A, or break -w A")
         word = "watch" if found["switch"] in ("w", "W") else "break"
         places = re.findall("[0-7]+", found["places"])
         self.lines += [Line(f"{word} {it}", command) for it in places]
@@ -105,7 +105,7 @@ class Lines:
     def step(self, text: str, command: str) -> None:
         found = STEP.fullmatch(text)
         if found is None:
-            raise NotHere("its form here is: step N")
+            raise Unusable("its form here is: step N")
         self.lines.append(Line(f"step {found['count'] or 1}", command))
 
     def run(self, command: str) -> None:

@@ -11,7 +11,7 @@ from contextlib import suppress
 from typing import Callable
 from unittest import mock
 
-from nezdrab.shell import pace
+from nezdrab.shell import console
 from tests import processes
 
 from .common import BUILT, SECONDS
@@ -388,15 +388,15 @@ class Pace(AtConsole):
 
 
     def test_turns_that_are_due(self) -> None:
-        slow, fast = pace.Pace(1, 0, 0.0), pace.Pace(250_000, 100, 5.0)
+        slow, fast = console.Pace(1, 0, 0.0), console.Pace(250_000, 100, 5.0)
         self.assertEqual([slow.due(it, 0) for it in (0.9, 1.0)], [0, 1])
         self.assertEqual([fast.due(5 + it / 64, 100) for it in (1, 4)], [4006, 15725])
         self.assertEqual(fast.due(65, 100), 100)  # it was suspended for a minute
         self.assertEqual(fast.due(65 + 1 / 64, 100), 4006)
-        self.assertEqual(pace.Pace(0, 7, 5.0).due(5, 7), 1_000_000_000)
+        self.assertEqual(console.Pace(0, 7, 5.0).due(5, 7), 1_000_000_000)
 
     def test_a_slice_that_takes_long_is_shorter_the_next_time(self) -> None:
-        part = pace.Slice(0.008)
+        part = console.Slice(0.008)
         noted = [(20_000, 0.001, 40_000), (500, 0.001, 40_000), (40_000, 0.1, 20_000)]
         for turns, took, wanted in [*noted, (20_000, 0.1, 20_000), (20_000, 0.3, 10_000)]:
             part.note(turns, took)

@@ -2,7 +2,7 @@
 import random
 from unittest import mock
 
-from nezdrab.analysis.memory_images import core_words, drive_image
+from nezdrab.core.all_words import core_words, drive_image
 from nezdrab.core.engine import Refused
 
 from .systems import LEDGER, SYSTEMS, TOP, OfSystems

@@ -4,7 +4,7 @@ import random
 from typing import Any, Iterator
 
 from nezdrab.dap.adapter import FIRST
-from nezdrab.dap.table import REQUESTS
+from nezdrab.dap.client import REQUESTS
 
 from .editor import Editor, Object
 from .test_editors import LISTING, OF_LEDGER, OfEditors

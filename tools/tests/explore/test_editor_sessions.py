@@ -8,7 +8,7 @@ import unittest
 from typing import Any
 
 from nezdrab.dap.adapter import WHILE_RUNNING
-from nezdrab.dap.table import REQUESTS
+from nezdrab.dap.client import REQUESTS
 
 from .common import ROOT, SECONDS
 from .editor import SCHEMA, Editor, Object

@@ -6,8 +6,7 @@ from nezdrab.core.errors import ExploreError
 from nezdrab.core.language import FORMS, LISTS, SEARCHES
 from nezdrab.shell import prompt  # which adds the commands
 from nezdrab.shell.commands import COMMANDS
-from nezdrab.shell.foreign import FOREIGN, line_of, sentence
-from nezdrab.shell.habits import HABITS
+from nezdrab.shell.foreign import FOREIGN, LINES_WITH_ARGUMENTS, line_of, sentence
 from nezdrab.shell.prompt import Prompt
 
 from .common import ROOT, Case
@@ -20,11 +19,9 @@ FIRST_LINES = (
     ("break *0x200", "break 1000"),
     ("b 1000", "break 1000"),
     ("b 1000 if R0 > 5", "break 1000 if R0 > 5"),
-    ("b 1000 if R0==5", "break 1000 if R0 = 5"),
-    ("b 1000 if $r0==0x10 && (COUNT&7)==3", "break 1000 if R0 = 20 and core COUNT & 7 = 3"),
-    ("b 1000 if COUNT > 3", "break 1000 if core COUNT > 3"),
-    ("b 1000 if i > 3", "break 1000"),
-    ("b 1000 if R0 >= 3", "break 1000"),
+    ("b 1000 if R0==5", "break 1000 if R0==5"),
+    ("b 1000 if $r0==0x10 && (COUNT&7)==3", "break 1000 if $r0==0x10 && (COUNT&7)==3"),
+    ("b 1000 if COUNT > 3", "break 1000 if COUNT > 3"),
     ("tbreak *0x200", "break 1000"),
     ("tb COUNT if R0 > 5", "break COUNT if R0 > 5"),
     ("c", "continue"),
@@ -46,6 +43,9 @@ FIRST_LINES = (
     ("x/4xw $sp", "dump kernel 676 4"),
     ("x/2i 0x200", "dump kernel 1000 2 instructions"),
     ("p $r0", "show"),
+    ("p COUNT", "dump COUNT 1"),
+    ("info display", "display"),
+    ("show memory", "pages 3"),
     ("display/i $pc", "display list"),
     ("display/x $r0", "display show"),
     ("display/x COUNT", "display dump COUNT 1"),
@@ -54,12 +54,13 @@ FIRST_LINES = (
     ("display r0", "display show"),
     ("disas 0x200", "list kernel 1000 16"),
     ("watch *0x400", "watch 2000"),
-    ("watch $r1", "until R1 != 0"),
-    ("watch r0", "until R0 != 0"),
-    ("watch $sp", "until KSP != 676"),
-    ("watch $pc", "step"),
+    ("watch $r1", "until R0 != 5"),
+    ("watch r0", "until R0 != 5"),
+    ("watch $sp", "until R0 != 5"),
+    ("watch $pc", "until R0 != 5"),
     ("rwatch *1000", "rwatch 1000"),
     ("awatch *0x200", "rwatch 1000"),
+    ("until", "over"),
     ("until *0x200", "until PC 1000"),
     ("frame", "calls"),
     ("up", "calls"),
@@ -92,7 +93,7 @@ FIRST_LINES = (
     ("show cpu history", "see 3 20"),
     ("sh cpu hi", "see 3 20"),
     ("set cpu 40", "setup"),
-    ("set cpu history=50", "see 3 20"),
+    ("set cpu history=50", "see 3 50"),
     ("show history=5", "see 3 5"),
     ("history 5", "see 3 5"),
     ("goto 500", "show 500"),
@@ -265,9 +266,11 @@ class Leads(OnMachine):
             except ExploreError:
                 self.assertEqual((made.explorer.machine.journal, made.explorer.turn), before)
 
-    def test_each_habit_has_a_first_line(self) -> None:
-        shown = [HABITS.get(line.split()[0].lower()) for line, _ in FIRST_LINES]
-        self.assertEqual([word for word, habit in HABITS.items() if habit not in shown], [])
+    def test_each_row_has_a_first_line(self) -> None:
+        lines = [line.partition(" ")[::2] for line, _ in FIRST_LINES]
+        for words, pattern, _ in LINES_WITH_ARGUMENTS:
+            typed = [rest for word, rest in lines if word.lower() in words.split()]
+            self.assertTrue(any(re.fullmatch(pattern, it, re.I) for it in typed), pattern)
 
 
 class Repeated(AtTerminal):

@@ -3,17 +3,17 @@ import fcntl
 import re
 import struct
 import termios
-from typing import Optional
 
 from nezdrab.core.language import FORMS, LISTS, SEARCHES
-from nezdrab.shell import pager, prompt  # noqa: F401, which adds the commands
+from nezdrab.shell import prompt, wrapping  # noqa: F401, which adds the commands
 from nezdrab.shell.commands import COMMANDS
 from nezdrab.shell.topics import ASKING, LINES, NAMED, SHOWING, TOPICS, commands_of
 
-from .common import SECONDS, Case
+from .common import Case
 from .terminal import AtTerminal
 
 COLUMNS, ROWS = 40, 10
+MARK = "| "
 
 
 class Topics(Case):
@@ -66,80 +66,66 @@ class Topics(Case):
 class Paragraphs(Case):
     def test_lines_that_stand_for_themselves_stay(self) -> None:
         detail = "Puts it there. What it is,\nits bytes tell:\na tape;\notherwise words. "
-        found = pager.paragraphs_of(f"{detail}{'x' * 70}\nA word more.")
+        found = wrapping.paragraphs_of(f"{detail}{'x' * 70}\nA word more.")
         self.assertEqual(
             found,
             ["Puts it there. What it is, its bytes tell:", "a tape;"]
             + [f"otherwise words. {'x' * 70} A word more."],
         )
         lines = ["  deeper", "    than", "    before"]
-        self.assertEqual(pager.wrap("  deeper than before", 12), lines)
-        self.assertEqual(pager.wrap("", 12), [""])
+        self.assertEqual(wrapping.wrap("  deeper than before", 12), lines)
+        self.assertEqual(wrapping.wrap("", 12), [""])
 
 
 class AtPrompt(AtTerminal):
-    """A terminal of 40 columns and 10 rows."""
+    """A terminal of 40 columns and 10 rows, and a pager that marks each line."""
 
-    def begin_at(self, columns: int, rows: int, session: Optional[str] = None) -> None:
-        self.begin(*([session] if session else []))
+    pager = f"sed 's/^/{MARK}/'"
+
+    def environment(self) -> dict[str, str]:
+        return {**super().environment(), "PAGER": self.pager}
+
+    def begin_at(self, columns: int, rows: int) -> None:
+        self.begin()
         self.wait_for(b"explore> ")
         size = struct.pack("HHHH", rows, columns, 0, 0)
         fcntl.ioctl(self.ours, termios.TIOCSWINSZ, size)
         self.seen = b"explore> "
 
-    def test_it_fits_and_waits(self) -> None:
+    def test_it_fits_and_has_the_pager_of_the_system(self) -> None:
         self.begin_at(COLUMNS, ROWS)
+        self.type("log shown\n")
         self.type("help all\n")
         self.wait_for(b"help all\r\n")
-        shown = ""
-        for _ in range(4):
-            part = self.wait_for(pager.MORE.encode())
-            part = re.sub(r"(\rhelp: at work, [0-9]+ s )+\r *\r", "", part)  # where it takes long
-            lines = part.replace("\r", "").strip("\n").split("\n")
-            self.assertLessEqual(len(lines), ROWS - 1)
-            self.assertLessEqual(max(map(len, lines)), COLUMNS)
-            shown += part
-            self.seen = b"explore> " + self.seen
-            self.type("\n")
-        self.assertIn("moving: from turn to turn", shown)
-        self.wait_for(pager.MORE.encode())
-        self.seen = b"explore> " + self.seen
-        self.type("q")
-        # an arrow brings the line before: answers are none
-        self.type("\x1b[A")
-        self.wait_for(b"help all")
-        self.type_after("\n")
-        self.wait_for(pager.MORE.encode())
-        self.drop_line()
-        self.type("mem 0 1000 1\n")
-        self.wait_for(b"mem 000000")
+        shown = re.sub(r"\r( +\r)?|explore> ", "", self.wait_for(b"explore> "))
+        lines = shown.strip("\n").split("\n")
+        self.assertEqual([it for it in lines if it[:2] != MARK], [])
+        self.assertLessEqual(max(map(len, lines)), COLUMNS + len(MARK))
+        text = "".join(f"{it[2:]}\n" for it in lines)
+        self.assertIn("moving: from turn to turn", text)
+        self.seen = b"explore> "
         self.end()
+        self.assertIn(text, (self.folder / "shown").read_text())
 
-    def type_after(self, text: str) -> None:
-        self.seen = b"explore> " + self.seen
-        self.type(text)
-
-    def test_a_line_in_place_of_an_answer_is_done(self) -> None:
-        self.begin_at(COLUMNS, ROWS)
-        self.type("help all\n")
-        self.wait_for(pager.MORE.encode())
-        self.type_after("help edits\n")
-        self.wait_for(b"edits: other programs")
-        self.wait_for(pager.MORE.encode())
-        self.type_after("mem 0 1000 1\n")
-        self.wait_for(b"mem 000000")
-        self.type("\x1b[A\x1b[A\n")  # the history has them
-        self.wait_for(b"edits: other programs")
-        self.wait_for(pager.MORE.encode())
-        self.type_after("quit\n")
-        self.assertEqual(self.child.wait(SECONDS), 0)
-
-    def test_what_fits_does_not_wait(self) -> None:
+    def test_what_fits_is_shown_at_once(self) -> None:
         self.begin_at(COLUMNS, ROWS)
         self.type("help step\n")
-        self.assertNotIn("more", self.wait_for(b"explore> "))
+        self.assertNotIn(MARK, self.wait_for(b"explore> "))
         self.seen = b"explore> "
-        # nor do lines of a paste, whose others aren't answers
+        # so are lines of a paste
         self.type("help moving\x16\nmem 0 1000 1\n")
-        self.assertNotIn("-- more", self.wait_for(b"mem 000000"))
+        self.assertNotIn(MARK, self.wait_for(b"mem 000000"))
+        self.end()
+
+    def test_ctrl_c_is_the_pagers(self) -> None:
+        self.pager = "trap '' INT; cat; echo ENDED; sleep 1; true"
+        self.begin_at(COLUMNS, ROWS)
+        self.type("help all\n")
+        self.wait_for(b"ENDED")
+        for _ in range(2):
+            self.interrupt()
+        self.assertNotIn("stopped", self.wait_for(b"explore> "))
+        self.seen = b"explore> "
+        self.type("mem 0 1000 1\n")
+        self.assertNotIn("stopped", self.wait_for(b"mem 000000"))
         self.end()

@@ -2,7 +2,7 @@
 from pathlib import Path
 from unittest import mock
 
-from nezdrab.analysis import log_points
+from nezdrab.shell import log
 from nezdrab.analysis.explorer import Explorer
 from nezdrab.core.errors import ExploreError
 from nezdrab.core.replies import INSTRUCTION, Registers
@@ -62,7 +62,7 @@ class ByBruteForce(OnMachine):
     def test_a_list_that_is_cut_goes_on(self) -> None:
         explorer = self.explorer("", ["core 1000 777"])
         line, turns = "at 1000 to 149: {R0}", list[int]()
-        with mock.patch.object(log_points, "MOST_SHOWN", 64):
+        with mock.patch.object(log, "MOST_SHOWN", 64):
             while line:
                 *shown, last = lines_of(explorer, line)
                 turns += [int(it.split()[1][:-1]) for it in shown]

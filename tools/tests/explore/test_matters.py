@@ -7,6 +7,7 @@ from typing import Optional, Sequence
 from nezdrab.analysis.explorer import Explorer
 from nezdrab.analysis.matters import Matters, Results, tried
 from nezdrab.analysis.moves import Change, Tried, Way
+from nezdrab.analysis.long_work import take_lines
 from nezdrab.core.engine import LAST_TURN
 from nezdrab.core.past import Event
 
@@ -77,8 +78,7 @@ class BruteForce(OnMachine):
     def results(self, explorer: Explorer, line: str, hands: int = 2) -> Results:
         matters = Matters.of(explorer.machine, line)
         results = Results("", explorer.machine.script)
-        for task, change in tried(explorer.machine, matters, results, hands):
-            results.add(task, change)
+        list(tried(explorer.machine, matters, results, hands))
         return results
 
     def check(self, seed: int, most: int) -> int:
@@ -225,8 +225,8 @@ class InLedger(OnMachine):
         after = (self.folder / "kept").read_text()
         self.assertTrue(after.startswith(kept))
         self.assertNotIn(": lat\n", after)
-        results = Results("")
-        results.take(self.folder / "kept", after)
+        results = Results()
+        take_lines(results, self.folder / "kept", after)
         for (_, way), found in results.tried.items():
             self.assertEqual(found.known[0].start, 0 if way is Way.DROPPED else 1)
         again = self.explore(f"matters -o kept {IN_LEDGER}\n", session).splitlines()

@@ -67,7 +67,7 @@ class Commands(Case):
         named = {it: f"nezdrab.{name}" for it, name in COMMANDS.modules.items()}
         self.assertEqual(modules, named)
         for it in COMMANDS.values():
-            parts = it.addresses | it.files | it.texts
+            parts = it.parts_of("address", "place", "file", "text")
             self.assertEqual(parts - it.pattern.groupindex.keys(), set())
 
     def test_none_is_read_at_the_start(self) -> None:

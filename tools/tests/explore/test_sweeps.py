@@ -7,7 +7,7 @@ from pathlib import Path
 from typing import cast
 from unittest import mock
 
-from nezdrab.analysis import work_options
+from nezdrab.analysis import long_work
 from nezdrab.analysis.at_work import AtWork
 from nezdrab.analysis.crew import each_of
 from nezdrab.core.engine import Machine
@@ -155,8 +155,8 @@ class Sweeps(AtTerminal):
             return "y"
 
         explorer = mock.Mock(is_terminal=True)
-        with mock.patch.object(work_options, "typed_line", typed):
-            work_options.WorkOptions("", ("-y",)).check(explorer, "sweep", 200_000, "turns")
+        with mock.patch.object(long_work, "typed_line", typed):
+            long_work.WorkOptions("", ("-y",)).check(explorer, "sweep", 200_000, "turns")
         self.assertEqual((hidden, AtWork.is_hidden), ([True], False))
 
     def test_many_turns_want_a_word(self) -> None:

@@ -7,7 +7,7 @@ from unittest import mock
 from nezdrab.analysis.explorer import Explorer
 from nezdrab.analysis.matters import Matters, Results, tried
 from nezdrab.analysis.moves import Trial
-from nezdrab.analysis.unnoticed import Unnoticed
+from nezdrab.analysis.unnoticed import unnoticed
 from nezdrab.core.engine import LAST_TURN, Machine
 
 from .machines import LEDGER, OnMachine
@@ -74,7 +74,7 @@ class Unseen(OnMachine):
         machine = self.explorer(edits=past).machine
         taken = set(machine.turns_of("key")) | set(machine.turns_of("tick"))
         turns = range(5, 400)
-        found = Unnoticed(machine).of(machine, turns)
+        found = unnoticed(machine, turns)
         free = [it for it in turns if it + 1 not in taken]
         for turn in found.intersection(free):
             self.assertTrue(self.is_one_run(machine, turn), (seed, turn))
@@ -88,7 +88,7 @@ class Unseen(OnMachine):
 
     def test_a_halted_machine_notices_nothing(self) -> None:
         machine = self.explorer(edits=["core 1000 0"]).machine
-        self.assertEqual(Unnoticed(machine).of(machine, range(1, 50)), frozenset(range(1, 50)))
+        self.assertEqual(unnoticed(machine, range(1, 50)), frozenset(range(1, 50)))
 
 
 class Fewer(OnMachine):
@@ -97,8 +97,7 @@ class Fewer(OnMachine):
     def results(self, explorer: Explorer, line: str) -> Results:
         matters = Matters.of(explorer.machine, line)
         results = Results("", explorer.machine.script)
-        for task, change in tried(explorer.machine, matters, results, 1):
-            results.add(task, change)
+        list(tried(explorer.machine, matters, results, 1))
         return results
 
     def test_all_tried_and_few_tried(self) -> None:

@@ -3,7 +3,6 @@ and against runs in which an event brings another byte."""
 import random
 import re
 from typing import Sequence
-from xml.etree import ElementTree
 
 from nezdrab.analysis.account import ranges
 from nezdrab.analysis.cells import ALL_CODES, drive_cell, is_on_bus, register_cells
@@ -209,22 +208,7 @@ class Transfers(OnMachine):
         self.assertIn("copied by the disk in turn 9,", lines[2])
 
 
-class Graphs(AtTerminal):
-    def test_each_step_and_each_part_is_drawn(self) -> None:
-        (self.folder / "why.svg").write_text("")
-        self.begin("examples/ledger/ledger.session")
-        self.type("why R0 at 9 graph why.svg\n")
-        self.wait_for(b"why: why.svg is there already; why! overwrites it")
-        self.type("why! disk 0 at 138071 graph why.svg\n")
-        self.wait_for(b"made of events 2-5, 7-10, 12-14, not of 1, 6, 11, 15")
-        self.wait_for(b"the graph is in why.svg")
-        self.end()
-        root = ElementTree.fromstring((self.folder / "why.svg").read_text())
-        kinds = [it.get("class") for it in root if it.tag.endswith("circle")]
-        lines = sum(it.tag.endswith("path") for it in root)
-        self.assertEqual((kinds.count("event"), kinds.count("made")), (11, 22))
-        self.assertEqual(lines, len(kinds) - 1)
-
+class Stopped(AtTerminal):
     def test_ctrl_c_ends_it(self) -> None:
         self.begin("examples/ledger/ledger.session")
         self.type("why R4 at 900000000 steps 100000\n")

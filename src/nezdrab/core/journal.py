@@ -8,12 +8,12 @@ from contextlib import contextmanager, suppress
 from pathlib import Path
 from typing import Iterator, Optional, Sequence
 
-from ..core.errors import ExploreError
-from ..core.files import is_locked_here
-from ..core.in_words import counted
-from ..core.language import is_edit
-from ..core.options import LONGEST_PART, MARK, Options, option_text, options_of_words
-from ..core.values import dataclass, field
+from .errors import ExploreError
+from .files import is_locked_here
+from .in_words import counted
+from .language import is_edit
+from .options import LONGEST_PART, MARK, Options, option_text, options_of_words
+from .values import dataclass, field
 
 ENDING = ".journal"
 MOST_KEPT = 30
@@ -30,6 +30,11 @@ def state_folder() -> Optional[Path]:
     """Where the history and the journals are."""
     folder = os.environ.get("XDG_STATE_HOME") or os.path.expanduser("~/.local/state")
     return Path(folder) / "nezdrab" if os.path.isabs(folder) else None
+
+
+def session_line(session: Optional[object]) -> str:
+    """The line of a journal that names its session."""
+    return f"{OF_SESSION}{session or NO_SESSION}".replace("\n", " ")
 
 
 @dataclass
