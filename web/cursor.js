@@ -241,7 +241,7 @@ export class CursorPanels {
       it.words = await wordsRun(ask, it, it.pc, WORDS_OF_AN_INSTRUCTION);
     }));
     const fetched = turns.filter(it => it.words.length);
-    const texts = await this.texts(fetched);
+    const texts = await this.texts(ask, fetched);
     fetched.forEach((it, number) => { it.text = texts[number].text; });
     return turns.map(it => {
       const symbol = symbolNear(symbolsOfMode(this.symbols, it.mode), it.pc);
@@ -254,7 +254,7 @@ export class CursorPanels {
     const { registers: { mode, pc } } = machine;
     const words = await wordsRun(ask, machine, pc, INSTRUCTIONS * WORDS_OF_AN_INSTRUCTION);
     if (!words.length) return [{ mode, pc, text: "(can't be fetched)", symbol: "" }];
-    const texts = await this.texts(words.map((_, at) => (
+    const texts = await this.texts(ask, words.map((_, at) => (
       { pc: pc + 2 * at & 0o177777, words: words.slice(at, at + WORDS_OF_AN_INSTRUCTION) })));
     const found = [];
     for (let at = 0; at < texts.length && found.length < INSTRUCTIONS;) {
@@ -267,12 +267,14 @@ export class CursorPanels {
   }
 
   /** The texts of instructions, each from its address, its word and the two that follow.
-      @param {{pc: number, words: number[]}[]} asked */
-  async texts(asked) {
+      @param {Ask} ask @param {{pc: number, words: number[]}[]} asked */
+  async texts(ask, asked) {
     if (!asked.length) return [];
     const lines = asked.map(({ pc, words }) =>
       [pc, ...words, 0, 0].slice(0, 4).map(it => octal(it)).join(" "));
     const replies = await this.disassembler.ask(lines);
+    // what was given up meanwhile goes no further
+    await ask([]);
     return replies.map((reply, at) => {
       const [count, ...text] = reply.trimEnd().split(" ");
       const words = Number(count) || 1, isWhole = words <= asked[at].words.length;

@@ -134,7 +134,7 @@ export class Inspect {
     const held = await heldBefore(ask, run.past, cursor, wanted);
     const { stretch, why } = held, kind = choice("inspect-as").value;
     this.stretch = { ...stretch, count: wanted.count };
-    const rows = kind === "instructions" ? await this.instructions(held)
+    const rows = kind === "instructions" ? await this.instructions(ask, held)
       : rowsOf(held, IN_A_ROW[kind]).map(it => this.row(stretch, it, kind));
     const heads = [NAMES[stretch.space], kind, kind === "octal" ? "text" : ""];
     const left = why ? [make("p", {}, `The next word can't be read: ${why}.`)] : [];
@@ -178,13 +178,13 @@ export class Inspect {
     });
   }
 
-  /** @param {Held} held */
-  async instructions({ stretch, words }) {
+  /** @param {import("./cursor.js").Ask} ask @param {Held} held */
+  async instructions(ask, { stretch, words }) {
     const { space, at } = stretch, step = stepOf(space), { symbols } = this.app.session;
     const ofMode = space === "user" ? symbols.user : symbols.kernel;
     const asked = words.map((_, number) => ({ pc: at + number * 2 & 0o177777,
       words: words.slice(number, number + WORDS_OF_AN_INSTRUCTION) }));
-    const texts = await this.app.panels.texts(asked), rows = [];
+    const texts = await this.app.panels.texts(ask, asked), rows = [];
     for (let number = 0; number < texts.length; number += texts[number].words) {
       const place = at + number * step;
       const symbol = space === "disk" ? "" : symbolNear(ofMode, place & 0o177777);

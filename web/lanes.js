@@ -5,7 +5,7 @@ import { Brush, CHARACTER } from "./brush.js";
 import { SWEEP_COLOURS, letterOf } from "./sweep.js";
 import { Traces } from "./traces.js";
 
-const HEIGHTS = { axis: 24, events: 62, counter: 54, row: 30, steps: 40, sweep: 24 };
+const HEIGHTS = { axis: 24, events: 62, counter: 54, row: 30, rows: 42, steps: 40, sweep: 24 };
 
 /**
  * A lane: of a PC with its mode, of a word with what that is called, or an empty text.
@@ -79,7 +79,7 @@ export function lanesOf(words, hasSweep = false) {
     ...(hasSweep ? [{ name: "sweep", kind: /** @type {const} */ ("sweep") }] : []),
     { name: "kernel PC", kind: "counter", mode: "kernel" },
     { name: "user PC", kind: "counter", mode: "user" },
-    { name: "disk", kind: "row" }, { name: "interrupts", kind: "row" },
+    { name: "disk", kind: "row" }, { name: "interrupts", kind: "rows" },
     { name: "console", kind: "row" },
     ...words.map(({ name, label }) => (
       { name, label, kind: /** @type {const} */ ("steps") })),

@@ -233,6 +233,8 @@ export class NamedPasts {
     differences.showAtWork();
     app.attempt(async () => {
       await oldIsLoaded;
+      // by now the past may be another one, about which nothing needs to be asked
+      if (token.isStopped) return;
       const comparison = new Comparison(run, old, token);
       try {
         timeline.same = await sameFrom(old, run.past, end, token);

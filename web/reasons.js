@@ -52,10 +52,11 @@ export class Reasons {
   askOld(thing, turn) {
     const { app } = this, { old: run, oldIsLoaded, base: { past } } = app.session;
     if (!run) return undefined;
+    const token = app.token("why");
     app.dock.bring("why-panel");
     return this.attempt(async () => {
       await oldIsLoaded;
-      await this.show(new MadeQuestion(app, thing, { run, past }), turn);
+      if (!token.isStopped) await this.show(new MadeQuestion(app, thing, { run, past }), turn);
     });
   }
 

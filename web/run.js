@@ -64,10 +64,18 @@ export class Run {
     return new Machine({ program: "search", arguments: words, files, taken });
   }
 
-  /** The replies to lines, in their order. `token.isStopped` gives them up.
+  /** The replies to lines, in their order. `token.isStopped` gives them up, also if there are none
+      to wait for: what is asked by then is of another state.
       @param {string[]} lines @param {Token | null} token @returns {Promise<string[]>} */
-  ask(lines, priority = Priority.CURSOR, token = null) {
-    if (!lines.length) return Promise.resolve([]);
+  async ask(lines, priority = Priority.CURSOR, token = null) {
+    const replies = lines.length ? await this.repliesTo(lines, priority, token) : [];
+    if (token?.isStopped) throw new Stopped();
+    return replies;
+  }
+
+  /** @param {string[]} lines @param {number} priority @param {Token | null} token
+      @returns {Promise<string[]>} */
+  repliesTo(lines, priority, token) {
     return new Promise((resolve, reject) => {
       const job = { lines, priority, token, replies: [], search: null, tried: -1, resolve, reject };
       this.jobs.push(job);

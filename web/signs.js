@@ -12,7 +12,8 @@ const LANES = {
   "kernel PC": "where the program runs in kernel mode, higher for a higher address",
   "user PC": "where the program runs in user mode, higher for a higher address",
   disk: "what the disk does, from the turn that begins it to the one that ends it",
-  interrupts: "interrupts and traps, each by its vector",
+  interrupts: "interrupts, each by its device or, if that has no room, by its vector; \u00d73 are "
+    + "three too near one another for that, and if they are sampled \u22653 are at least three",
   console: "what the machine prints, each character in the turn that prints it",
 };
 

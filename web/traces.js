@@ -2,7 +2,7 @@
 // words. The old past lies in grey below the new one, each as far as it is known.
 
 import { CHARACTER } from "./brush.js";
-import { LAST_TURN, shownByte, vectorName, visibleName } from "./replies.js";
+import { LAST_TURN, octal, shownByte, vectorName, visibleName } from "./replies.js";
 import { symbolsOfMode } from "./session.js";
 
 const MOST_NAME = 8;
@@ -16,6 +16,8 @@ const UNSEEN = [0o15, 0o12, 0o40];
  * @typedef {import("./picture.js").Picture} Picture
  * @typedef {import("./picture.js").Look} Look
  * @typedef {import("./picture.js").Bar} Bar
+ * @typedef {import("./picture.js").Interrupt} Interrupt
+ * @typedef {import("./lanes.js").View} View
  * @typedef {import("./picture.js").Value} Value
  * @typedef {import("./picture.js").Printed} Printed
  * @typedef {(value: number) => number} Height of a value in a lane
@@ -189,16 +191,15 @@ export class Traces {
   /** @param {Lane} lane */
   drawInterrupts(lane) {
     const { brush } = this, { pen, view, colours } = brush;
-    this.drawBoth(lane, ({ interrupts }, isGhost) => {
-      let free = -Infinity;
-      for (const it of interrupts) {
-        const [x, name] = [view.x(it.turn), vectorName(it.vector)];
-        pen.fillStyle = colours[isGhost ? "ghost" : "interrupt"];
-        if (isGhost) pen.fillRect(x, lane.top + 3, 1.5, 6);
-        else pen.fillRect(x - 0.75, lane.top + 6, 1.5, 10);
-        if (isGhost || x < free) continue;
-        brush.label(x, lane.top + 27, name, "interrupt");
-        free = x + CHARACTER * (name.length + 1);
+    this.drawBoth(lane, ({ interrupts, sampledVectors }, isGhost) => {
+      pen.fillStyle = colours[isGhost ? "ghost" : "interrupt"];
+      for (const { turn } of interrupts) {
+        if (isGhost) pen.fillRect(view.x(turn), lane.top + 3, 1.5, 6);
+        else pen.fillRect(view.x(turn) - 0.75, lane.top + 6, 1.5, 10);
+      }
+      if (isGhost) return;
+      for (const { x, text, row } of labelsOf(interrupts, view, sampledVectors.length > 0)) {
+        brush.label(x, lane.top + 27 + 12 * row, text, "interrupt");
       }
     });
   }
@@ -313,6 +314,34 @@ function knownTurns(lane, picture) {
     || lane.name === "interrupts" && picture.sampledVectors.length > 0;
   const to = picture.isMade ? picture.end : isLooks ? picture.reached : picture.first;
   return { from: picture.first, to };
+}
+
+/** What stands below the interrupts in sight, in two rows: the name of each, or its vector if the
+    name has no room. Those that have no room for that either have one label together, with how many
+    they are, or if they are sampled how many at least.
+    @param {Interrupt[]} interrupts @param {View} view */
+export function labelsOf(interrupts, view, isSampled = false) {
+  const seen = interrupts.filter(it => it.turn >= view.first && it.turn < view.end);
+  const places = seen.map(it => view.x(it.turn)), right = view.left + view.width;
+  /** @type {{x: number, text: string, row: number}[]} */
+  const labels = [];
+  const ends = [0, 0];
+  for (let at = 0, next = 1, areSame = true; at < seen.length; next++) {
+    const { vector } = seen[at], name = vectorName(vector), x = places[at];
+    const count = `${isSampled ? "\u2265" : "\u00d7"}${next - at}`;
+    areSame &&= seen[next - 1].vector === vector;
+    const several = areSame ? [`${name} ${count}`, count] : [count];
+    // the next one stands in the other row, if that is free
+    const row = ends[0] <= x ? 0 : 1, isFree = ends[1 - row] <= places[next];
+    const room = (places[isFree ? next + 1 : next] ?? right) - x;
+    const text = (next === at + 1 ? [name, octal(vector, 3)] : several)
+      .find(it => CHARACTER * (it.length + 1) <= room);
+    if (text === undefined && next < seen.length) continue;
+    if (text !== undefined) labels.push({ x, text, row });
+    ends[row] = x + CHARACTER * ((text ?? "").length + 1);
+    [at, areSame] = [next, true];
+  }
+  return labels;
 }
 
 /** Looks that follow one another and have the same state.

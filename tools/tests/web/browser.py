@@ -187,6 +187,10 @@ class Browser(Driven):
         self._load("Page.reload")
         self.wait("document.documentElement?.dataset.state === 'ready'")
 
+    def forget(self) -> None:
+        """Forgets what pages keep after their tab is closed."""
+        self.call("Storage.clearDataForOrigin", origin="*", storageTypes="local_storage")
+
     def _load(self, method: str, **parameters: Any) -> None:
         """Calls a method that loads a page, and waits until it is loaded."""
         before, end = self.loads, time.monotonic() + SECONDS

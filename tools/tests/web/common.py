@@ -165,8 +165,8 @@ class InChromium(OnPage):
 
 
 class PageCase(InChromium):
-    """A test with the page open at its first session, and drawn. It ends without an error in the
-    console."""
+    """A test with the page open at its first session, and drawn, and nothing that another test
+    kept. It ends without an error in the console."""
 
     maxDiff = 4000
     fragment = ""
@@ -179,6 +179,7 @@ class PageCase(InChromium):
 
     def setUp(self) -> None:
         self.browser.size(1280, 1000)
+        self.browser.forget()
         self.browser.open(self.address + self.fragment)
         self.browser.wait("document.querySelector('#balance').textContent !== '..'")
         self.wait_still()

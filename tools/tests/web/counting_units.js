@@ -99,3 +99,15 @@ export async function test_counts_that_are_refused_or_of_no_turn() {
     ["refused 3 OddAddress", "counts 0 0", "regs 5"]);
   equal(Math.max(...run.machine.runs) <= 1_000_000, true);
 }
+
+/** Replies that come as they are given up are of another state by then. */
+export async function test_replies_that_come_too_late_are_dropped() {
+  const run = new CountingRun({}), { machine } = run, stopped = { isStopped: true };
+  const late = { isStopped: false }, ask = machine.ask.bind(machine);
+  machine.ask = lines => ask(lines).finally(() => { late.isStopped = true; });
+  /** @param {Promise<string[]>} asked */
+  const endOf = asked => asked.then(() => "replies", it => it.constructor.name);
+  equal([await endOf(run.ask(["regs 5"], 1, late)), await endOf(run.ask([], 1, stopped)),
+    await endOf(run.ask([])), await run.ask(["counts 7 7 user 2 2"])],
+    ["Stopped", "Stopped", "replies", ["counts 0 0"]]);
+}

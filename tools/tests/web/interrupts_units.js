@@ -3,7 +3,9 @@
 import { sampledIn } from "/sampled.js";
 import { Past } from "/past.js";
 import { PictureMaker } from "/picture.js";
-import { DEVICE_VECTORS, octal } from "/replies.js";
+import { View } from "/lanes.js";
+import { DEVICE_VECTORS, octal, vectorName } from "/replies.js";
+import { labelsOf } from "/traces.js";
 
 const [KEYBOARD, PRINTER] = [0o60, 0o64];
 const DEVICES = "devices RKCS 000200 RKWC 000000 RKBA 000000 RKDA 000000";
@@ -88,4 +90,59 @@ export async function test_interrupts_in_too_many_turns_are_sampled() {
   const picture = await pictureOf(run, 90_000_000);
   equal([lookLike(picture, KEYBOARD), picture.sampledVectors], [[7, 90_063], DEVICE_VECTORS]);
   equal([trails().length, asked.some(it => it.startsWith("first"))], [1_000, false]);
+}
+
+/** A view in which each turn has so many pixels. */
+function viewOf(first, span, pixels) {
+  const view = new View(first, span);
+  view.width = span * pixels;
+  return view;
+}
+
+const interruptsAt = (...turns) => turns.map(turn => ({ turn, vector: KEYBOARD }));
+
+/** The labels of interrupts: those of the second row are indented. */
+const labelled = (interrupts, view, isSampled) =>
+  labelsOf(interrupts, view, isSampled).map(({ text, row }) => (row ? "  " : "") + text);
+
+export function test_each_interrupt_has_a_label_of_its_own() {
+  const view = viewOf(100, 200, 1);
+  const near = [...interruptsAt(110, 140), { turn: 143, vector: PRINTER }];
+  equal(labelled(interruptsAt(110, 200), view), ["keyboard", "keyboard"]);
+  equal(labelled(near, view), ["060", "keyboard", "  printer"]);
+  equal(labelled(interruptsAt(110, 113, 175, 180, 270), view),
+    ["keyboard", "  keyboard", "keyboard", "  keyboard", "060"]);
+  // what is out of sight, or is cut at the edge, has none
+  equal(labelled(interruptsAt(99, 110, 290, 300), view), ["keyboard"]);
+}
+
+export function test_interrupts_without_room_are_counted() {
+  const view = viewOf(100, 200, 1), near = interruptsAt(110, 113, 116, 119, 195);
+  equal(labelled(near, view), ["keyboard \u00d73", "  keyboard", "keyboard"]);
+  equal(labelled(near, view, true), ["keyboard \u22653", "  keyboard", "keyboard"]);
+  equal(labelled([...near, { turn: 114, vector: PRINTER }].sort((a, b) => a.turn - b.turn), view),
+    ["\u00d74", "  keyboard", "keyboard"]);
+}
+
+/** Every interrupt in sight has one label that has room; the counts add up. */
+export function test_labels_of_interrupts_stand_for_all() {
+  let seed = 1;
+  const random = most => (seed = seed * 48_271 % 2_147_483_647) % most;
+  for (let round = 0; round < 300; round++) {
+    const count = random(60), view = viewOf(random(50), 1_000, 0.5 + random(4));
+    const turns = Array.from({ length: count }, () => random(900)).sort((a, b) => a - b);
+    const interrupts = turns.map(turn => ({ turn, vector: DEVICE_VECTORS[random(6)] }));
+    const seen = interrupts.filter(it => it.turn >= view.first), ends = [0, 0];
+    let next = 0;
+    for (const { x, text, row } of labelsOf(interrupts, view)) {
+      const { turn, vector } = seen[next];
+      const [, of, many] = /^(\D*?) ?(?:\u00d7(\d+))?$/.exec(text) ?? [];
+      const texts = [vectorName(vector), octal(vector, 3)];
+      equal([x, many ? !of || of === texts[0] : texts.includes(text)], [view.x(turn), true]);
+      next += Number(many ?? 1);
+      equal(ends[row] <= x, true);
+      ends[row] = x + 6 * text.length;
+    }
+    equal([next, Math.max(...ends) <= view.left + view.width], [seen.length, true]);
+  }
 }

@@ -103,7 +103,12 @@ class Access(OpenCase):
             "document.querySelector('#front').open = true; document.activeElement.blur()"
         )
         self.wait_still()
-        beat = "(it => { it.pause(); it.currentTime = %d; })(document.getAnimations()[0])"
+        # the pulse begins anew: it ends after some seconds
+        beat = (
+            "(it => { it.style.animation = 'none'; it.getAnimations(); it.style.animation = '';"
+            "const [pulse] = it.getAnimations(); pulse.pause(); pulse.currentTime = %d; })"
+            "(document.querySelector('.mark.wanted'))"
+        )
         hide = "document.querySelector('.cursor').style.visibility = '%s'"
         light = "document.querySelector('#front-run').classList.toggle('on', %s)"
         for is_dark in (False, True):

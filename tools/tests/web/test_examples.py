@@ -88,6 +88,27 @@ class Examples(PageCase):
             self.browser.click("#calls summary")
         self.wait_text("#call-list", "COUNTING")
 
+    def test_the_lost_note_comes_back(self) -> None:
+        """By the drag that its story tells; then the page shows where the note went."""
+        session = EXAMPLES / "forth/long/lost-note.session"
+        lines = session.read_text().splitlines()
+        (target,) = (it.split()[3:6] for it in lines if it.startswith("# story target "))
+        asked = next(it.split(" ", 3)[3] for it in lines if it.startswith("# story ask "))
+        self.open_example("note")
+        self.wait_text("#verdict", "note 21 is empty")
+        self.browser.drag(f'[data-event="{target[0]}"]', 850)
+        self.wait_text("#verdict", "CALL ADA AT NOON is there")
+        self.browser.wait("document.querySelectorAll('#edits li').length === 1")
+        turns = [2_129_400, int(self.edits()[0].split()[2]), *map(int, target[1:])]
+        more = [it for turn in turns for it in (f"alter {target[0]} {turn} key 15", asked)]
+        words = ["--start", "2000", "--disk", str(EXAMPLES / "forth/forth.disk")]
+        empty, *there = replies_of([*lines, *more], *words)[1 - len(more) :: 2]
+        self.assertEqual(empty, "dsk" + 8 * " 000000")
+        note = [a | b << 8 for a, b in zip(b"CL D TNO", b"ALAAA ON")]
+        self.assertEqual(there, 3 * ["dsk" + "".join(f" {it:06o}" for it in note)])
+        self.browser.click("#next button")
+        self.wait_text("#reasons", "event 48: key 114")
+
     def test_programs_are_what_their_files_hold(self) -> None:
         for key, placed, start, after in (
             ("tape", bytes_of_tape((EXAMPLES / "media/hello.lda").read_bytes()), "1000", "TEXT"),

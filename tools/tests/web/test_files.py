@@ -92,7 +92,6 @@ class Files(FilesCase):
 
     def test_a_saved_page_shows_what_was_shown(self) -> None:
         """Its edits, on and off, pasts, words that are drawn, and the cursor's turn."""
-        self.addCleanup(self.browser.value, "localStorage.clear()")
         self.type_line("alter 15 127000 key 66")
         self.fill("#keep-name", "early")
         self.browser.key("Enter")

@@ -3,6 +3,21 @@ from .common import LOST, SAFE, PageCase, ledger_lines, replies_of
 
 PAST = ledger_lines()[:-2]
 ASKED = ("regs 131000", "dsk 238614 0 1")
+# Workers that are made from now on get nothing until they are let go.
+HOLD = """(() => {
+  const Native = Worker, held = [];
+  let isHeld = true;
+  window.Worker = class extends Native {
+    postMessage(...words) {
+      if (isHeld) held.push(() => super.postMessage(...words));
+      else super.postMessage(...words);
+    }
+  };
+  window.letGo = () => {
+    isHeld = false;
+    held.splice(0).forEach(it => it());
+  };
+})()"""
 
 
 class PastsCase(PageCase):
@@ -123,6 +138,25 @@ class Names(PastsCase):
         self.wait_text("#difference", "Drive 0")
         self.wait_still()
         self.assertIn(["0000000", "000170", safe], self.difference())
+
+    def test_a_comparison_that_comes_late_is_dropped(self) -> None:
+        """The old past's machine comes once the edit is taken back: there is nothing to compare."""
+        self.browser.value(HOLD)
+        self.type_line("alter 15 127165 key 66")
+        self.wait_text("#difference", "Comparing ..")
+        self.browser.click("#undo")
+        self.count(0)
+        self.balance(LOST)
+        self.browser.value("letGo()")
+        self.wait_still()
+        said = "Once you make an edit, this says what it changed."
+        self.assertEqual(self.browser.text("#difference"), said)
+
+    def test_what_another_test_kept_is_gone(self) -> None:
+        self.keep("kept")
+        self.setUp()
+        names = "document.querySelector('#compared-with').textContent"
+        self.assertEqual(self.browser.value(names), "as it was opened")
 
     def test_a_past_needs_a_name(self) -> None:
         self.browser.value("document.querySelector('#keep-form').requestSubmit()")

@@ -64,7 +64,6 @@ class Safety(PageCase):
         self.assertEqual(outside, [])
 
     def test_only_this_tab_keeps_what_has_no_name(self) -> None:
-        self.browser.value("localStorage.clear()")  # what other tests gave names
         self.type_line("alter 15 127165 key 66")
         stored = self.browser.value(
             "(async () => { let count = document.cookie.length + localStorage.length;"

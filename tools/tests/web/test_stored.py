@@ -2,7 +2,6 @@
 from .common import LOST, SAFE, PageCase, ledger_lines, replies_of
 
 PAST = ledger_lines()[:-2]
-CLEAR = "try { localStorage.clear(); } catch {}"
 # A browser that keeps nothing: the page's script runs after this one.
 REFUSES = (
     "Storage.prototype.setItem = Storage.prototype.getItem = () => { throw new Error('none'); }"
@@ -10,13 +9,6 @@ REFUSES = (
 
 
 class Stored(PageCase):
-    def setUp(self) -> None:
-        super().setUp()
-        self.browser.value(CLEAR)
-        self.addCleanup(self.browser.value, CLEAR)
-        self.browser.open(self.address)
-        self.wait_still()
-
     def keep(self, name: str) -> None:
         self.fill("#keep-name", name)
         self.browser.key("Enter")
@@ -94,7 +86,7 @@ class Stored(PageCase):
             self.browser.reload()
             self.wait_still()
             self.assertEqual(self.browser.value(chosen), name)
-            self.browser.value(CLEAR)
+            self.browser.forget()
         self.assertEqual(self.browser.text("#legend-old"), "before your edits")
 
     def test_a_past_is_forgotten(self) -> None:
