@@ -6,6 +6,7 @@ from typing import Iterator, Optional, Sequence, TypeVar
 
 from .asked import Asked
 from .children import ProgramEnded
+from .drive_searches import LAST_TURN, is_of_drive, reply_to
 from .edit_file import EditFile
 from .errors import ExploreError
 from .interrupts import INTERRUPTS
@@ -18,7 +19,6 @@ from .replies import accesses_of, listed, text_of, turns_of, words_of
 from .sessions import first_word
 from .values import dataclass, field, replace
 
-LAST_TURN = 1_000_000_000
 MOST_TURNS_OF_A_TRAIL = 64
 MOST_WORDS = 256
 # How many lines are sent before their replies are looked at: those with long replies, and others.
@@ -222,11 +222,19 @@ class Machine:
 
     def ask_all(self, lines: Sequence[str], ahead: int = SENT_AHEAD) -> Iterator[str]:
         """The replies to lines, one by one. Edits among them aren't kept."""
+        for part in in_parts(lines, ahead):
+            if any(map(is_of_drive, part)):
+                for it in part:
+                    yield from [reply_to(self, it)] if is_of_drive(it) else self._together([it])
+            else:
+                yield from self._together(part)
+
+    def _together(self, lines: Sequence[str]) -> Iterator[str]:
+        """The replies to lines that are sent together."""
         with self._started_again():
-            for part in in_parts(lines, ahead):
-                replies = self.limited().replies(part)
-                self.asked.note(it for it, reply in zip(part, replies) if not is_refused(reply))
-                yield from replies
+            replies = self.limited().replies(lines)
+            self.asked.note(it for it, reply in zip(lines, replies) if not is_refused(reply))
+            yield from replies
 
     def blocks(self, lines: Sequence[str], reply_bytes: int) -> Iterator[bytes]:
         """The replies to many questions of one kind as bytes, some at a time: for searches, which
