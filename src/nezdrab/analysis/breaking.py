@@ -79,7 +79,7 @@ def condition_sought(explorer: Explorer, parts: list[str]) -> str:
         most = MOST_PARTS - (len(parts) - 1)
         raise ExploreError(
             f"'{parts[-1]}' is no CONDITION, which has {most} parts at most here; a CONDITION is "
-            f"{sessions.CONDITIONS}"
+            f"{sessions.CONDITIONS_HERE}"
         )
     return line[len(begin) :]
 

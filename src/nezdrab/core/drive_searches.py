@@ -15,6 +15,7 @@ if TYPE_CHECKING:
 SEARCHES, LAST_TURN = ("first", "latest"), 1_000_000_000
 FIRST_PART, LARGEST_PART = 16_384, 10_000_000  # turns that are searched together
 IN_VERSION = {1: r"(?<!\S)disk ([0-7]+)(?!\S)", 2: r"(?<!\S)disk ([0-7]+ [0-7]+)(?!\S)"}
+BAD_LINE = "refused 10 BadLine"
 OF_NUMBER = re.compile(r"([0-7]+) (=|!=|<|>|&) (.+)")
 MASKED = re.compile("([0-7]+) = ([0-7]+)")
 RELATIONS: dict[str, Callable[[int, int], bool]] = {
@@ -79,11 +80,12 @@ class DriveSearch(NamedTuple):
     def refusal(self, first: str, end: str) -> Optional[str]:
         """Why these turns can't be searched, as the program replies it."""
         condition = re.sub(self.pattern, "R0", self.condition)
+        if "disk" in condition.split() or not is_turn(first) or not is_turn(end):
+            return BAD_LINE
         lines = [f"{self.word} 0 0 where {condition}", *(f"change 0 0 {it}" for it in self.places)]
         refused = [it for it in self.machine.ask_all(lines) if it.startswith("refused")]
-        of_form = [it for it in refused if it.startswith("refused 10 ")]
-        if of_form or not is_turn(first) or not is_turn(end):
-            return "refused 10 BadLine"
+        if any(it.startswith("refused 10 ") for it in refused):
+            return BAD_LINE
         if max(int(first), int(end)) > LAST_TURN:
             return "refused 7 TurnTooLarge"
         if int(first) > int(end):

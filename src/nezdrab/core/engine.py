@@ -6,7 +6,7 @@ from typing import Iterator, Optional, Sequence, TypeVar
 
 from .asked import Asked
 from .children import ProgramEnded
-from .drive_searches import LAST_TURN, is_of_drive, reply_to
+from .drive_searches import LAST_TURN as LAST_TURN, is_of_drive, reply_to
 from .edit_file import EditFile
 from .errors import ExploreError
 from .interrupts import INTERRUPTS

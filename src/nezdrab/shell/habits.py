@@ -101,7 +101,7 @@ def stop(asker: Asker, rest: str, more: str = "") -> str:
     if not address:
         return ""
     line = f"break {address}{f' if {condition}' if condition else ''}"
-    more += f"; a CONDITION is {sessions.CONDITIONS}" if asked and not condition else ""
+    more += f"; a CONDITION is {sessions.CONDITIONS_HERE}" if asked and not condition else ""
     return f"`{line}`, then `continue`{OCTAL if '0x' in place.lower() else ''}{more}"
 
 

@@ -53,7 +53,7 @@ FINDING = ("last", "first", "latest", "change", "when", "fades")
 # The commands that an empty line does again.
 STEPS = {"step", "back", "reverse-continue", "reverse-over", "reverse-finish"}
 STEPS |= {"continue", "over", "finish"}
-CONDITION_HELP = f"A CONDITION is {sessions.CONDITIONS}"
+CONDITION_HELP = f"A CONDITION is {sessions.CONDITIONS_HERE}"
 NUMBERS = (
     "A, X, I, J, D, V, W, B and a mask K are octal, N, M, T, C, E, F and other K decimal. A and X "
     "may be a symbol, with octal numbers after + and -. A question about turn N is about the "
