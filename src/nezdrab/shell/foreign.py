@@ -92,6 +92,10 @@ PLACES = re.compile(r"(?<![^ ])(A|C|M|N|V|W|X|FILE|LINE|NAME|TEXT|WORD)(?![^ ])"
 VIRTUAL = "`dump user A C` takes an address of a program, as `dump kernel A C` does"
 
 
+class Value(str):
+    """A sentence that tells a value, and leads to no line."""
+
+
 def examined(word: str, rest: str) -> str:
     """The dump that a word such as `x/20i` asks for, or an empty text. gdb counts bytes, a dump
     words."""

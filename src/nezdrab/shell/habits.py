@@ -12,7 +12,8 @@ from ..core import sessions
 from ..core.errors import ExploreError
 from ..core.replies import SPACES, Mode, Registers
 from ..core.symbols import ADDRESS
-from .foreign import CALLS, DISPLAYED, NAMING, OVER, ROUTINES, STAYS, STEP, sentence
+from .arithmetic import FORMATS, Expression, worked_out
+from .foreign import CALLS, DISPLAYED, NAMING, OVER, ROUTINES, STAYS, STEP, Value, sentence
 
 HEXADECIMAL = re.compile(r"0[xX]([0-9a-fA-F]{1,5})")
 REGISTER = re.compile(r"\$?(r[0-7]|[ku]?sp|pc|psw?)", re.I)
@@ -53,6 +54,11 @@ class Asker:
         name = {"R6": "SP", "R7": "PC", "PSW": "PS"}.get(found[1].upper(), found[1].upper())
         name = pointer(registers.mode) if name == "SP" else name
         return name, registers.words[name]
+
+    def device(self, name: str) -> Optional[int]:
+        """What a register of a device has."""
+        words = self.explorer.machine.devices(self.turn).words
+        return words.get(OF_CONSOLE.get(name.upper(), name.upper()))
 
     def address(self, text: str) -> str:
         """An address as it is typed here, or an empty text: `*0x200` is 1000, `$pc` the word that
@@ -126,8 +132,8 @@ def until(asker: Asker, rest: str) -> str:
     return f"`until PC {address}`" if address else "" if rest else OVER
 
 
-def steps(asker: Asker, rest: str) -> str:
-    return f"`step {rest}`" if re.fullmatch("[0-9]{1,9}", rest) else ""
+def steps(line: str) -> Callable[[Asker, str], str]:
+    return lambda _, rest: f"`{line} {rest}`" if re.fullmatch("[0-9]{1,9}", rest) else ""
 
 
 def go(asker: Asker, rest: str) -> str:
@@ -142,11 +148,11 @@ def gone_on(asker: Asker, rest: str) -> str:
 
 
 def printed(asker: Asker, rest: str) -> str:
-    """`p $r0`, `p COUNT`, `p *0x200`: the value of a register, or the word at an address. Other
-    expressions aren't worked out."""
+    """`p $r0`, `p COUNT`, `p *0x200`: the value of a register, or the word at an address; of other
+    expressions what they come to."""
     is_word = rest.startswith("*") and re.fullmatch(r"\*(\$\w+|0x\w+|[0-7]+)", rest)
     is_name = re.fullmatch(r"[$A-Za-z_.]\w*", rest) is not None
-    return examined(asker, rest) if is_word or is_name else ""
+    return examined(asker, rest) if is_word or is_name else worked_out(asker, rest)
 
 
 def disassembled(asker: Asker, rest: str) -> str:
@@ -174,15 +180,14 @@ def examined(asker: Asker, rest: str) -> str:
 
 def value_in_words(asker: Asker, name: str) -> str:
     """What a register has, one of the processor or of a device, or an empty text."""
-    register, turn = asker.register(name), asker.turn
-    device = OF_CONSOLE.get(name.upper(), name.upper())
-    devices = asker.explorer.machine.devices(turn).words
-    if device in devices and not asker.address(name):
+    register, device, turn = asker.register(name), asker.device(name), asker.turn
+    if device is not None and not asker.address(name):
         where = f"before turn {turn}; `devices {turn}` has all registers of devices"
-        return f"{device} is {devices[device]:06o} {where}"
+        return Value(f"{OF_CONSOLE.get(name.upper(), name.upper())} is {device:06o} {where}")
     if register is None:
-        return ""
-    return f"{register[0]} is {register[1]:06o} before turn {turn}; `show` has all registers"
+        return Value()
+    said = f"{register[0]} is {register[1]:06o} before turn {turn}; `show` has all registers"
+    return Value(said)
 
 
 def deposited(asker: Asker, rest: str) -> str:
@@ -288,7 +293,12 @@ HABITS: dict[str, Callable[[Asker, str], str]] = {
     **dict.fromkeys(("b", "br", "bre", "break"), stop),
     **dict.fromkeys(("tb", "tbreak"), partial(stop, more=f"; {STAYS}")),
     "until": until,
-    **dict.fromkeys(("s", "si", "step", "stepi"), steps),
+    **dict.fromkeys(("s", "si", "step", "stepi"), steps("step")),
+    **dict.fromkeys(("n", "ni", "nexti"), steps("over")),
+    **dict.fromkeys(("c", "cont"), steps("continue")),
+    **dict.fromkeys(("rs", "rsi", "reverse-step", "reverse-stepi"), steps("back")),
+    **dict.fromkeys(("rn", "rni", "reverse-next", "reverse-nexti"), steps("reverse-over")),
+    **{"rc": steps("reverse-continue"), "x": lambda asker, rest: at_one(asker, rest)},
     **dict.fromkeys(("g", "go", "u", "advance"), go),
     **dict.fromkeys(("ru", "j", "jump"), gone_on),
     **dict.fromkeys(("disas", "disassemble", "l"), disassembled),
@@ -309,12 +319,20 @@ def with_format(asker: Asker, word: str, rest: str) -> str:
     An address of gdb is a program's."""
     if word.startswith("display/"):
         return displayed(asker, rest) or DISPLAYED if word[-1] != "i" else DISPLAYED
-    is_value = word[0] in "po" and asker.register(rest)
-    if is_value or not (asker.register(rest) or "0x" in rest.lower()):
-        return examined(asker, rest) if is_value else ""
-    address = asker.address(rest)
+    is_value, how = word[0] in "po", word.partition("/")[2]
+    if is_value and how in FORMATS:
+        return worked_out(asker, rest, how)
+    address = asker.address(rest) if asker.register(rest) or "0x" in rest.lower() else ""
+    if not address and "$" in rest:
+        number = Expression(asker, rest).value()
+        address = "" if number is None else f"{number:o}"
     found = re.match("`dump ([^`]*`)", sentence(word, address))
     return f"`dump {asker.space.value} {found[1]}" if address and found else ""
+
+
+def at_one(asker: Asker, rest: str) -> str:
+    """`x 0x200`: the word at an address."""
+    return (with_format(asker, "x/1", rest) or sentence("x/1", rest)) if rest else ""
 
 
 def names_register(explorer: Explorer, word: str, rest: str) -> bool:
@@ -322,9 +340,6 @@ def names_register(explorer: Explorer, word: str, rest: str) -> bool:
     found = [it for it in rest.split() if REGISTER.fullmatch(it)]
     named = [it for it in found if it.startswith("$") or word in NAMING and it == rest]
     return any(not Asker(explorer).is_known(it) for it in named)
-
-
-VALUE = re.compile(r"[A-Z]\w* is [0-7]{6} before turn ")
 
 
 def led_on(explorer: Explorer, word: str, rest: str) -> str:

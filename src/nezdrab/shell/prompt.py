@@ -22,7 +22,7 @@ from .commands import COMMANDS, ENDS
 from .completion import HELP, completions
 from .defining import definition_line
 from .display import displays_after_move
-from .foreign import NAMING, line_of, sentence
+from .foreign import Value, NAMING, line_of, sentence
 from .journal import state_folder
 from .mapped import MAPPED_HELP, MAPPED_WORDS, in_core
 from .output import LINES, Unwritable, fault_in_words, flush, put
@@ -283,10 +283,8 @@ class Prompt(Interpreter):
     def lines_of_other(self, said: str, rest: str, is_done: bool = True) -> Iterator[str]:
         """What a line of gdb or SIMH shows: the sentence about it, and what the line that this
         begins with shows. An error if there is none."""
-        from .habits import VALUE
-
         line = line_of(said, rest) if is_done else ""
-        if not line and not VALUE.match(said):
+        if not line and not isinstance(said, Value):
             raise ExploreError(said)
         yield said
         yield from self.lines(line)
