@@ -10,7 +10,7 @@ from .cells import ALL_CODES, C, Cells, N, V, Z, first_of, is_register, name_of,
 from .cells import register_cells
 from .command import Arguments, command
 from .explorer import Explorer
-from .listing import HEADING, SeenTurn, seen, turns_in_words
+from .listing import HEADING, SeenTurn, instruction_of, seen, turns_in_words
 from .operands import Flow, pointer_of
 from .turn_flow import flows_with_bar
 
@@ -120,6 +120,34 @@ def branch_lines(explorer: Explorer, found: Sequence[Branch], begin: int) -> Ite
         is_taken = pc != branch.act.pc + 2 & 0o177777
         yield f"{shown.line()}  {'taken' if is_taken else 'not taken'}"
         yield from source_lines(branch, shown, by, begin)
+
+
+def went_elsewhere(explorer: Explorer, turns: range) -> Iterator[SeenTurn]:
+    """Those of these turns after which PC isn't behind their instruction, nor where it was."""
+    machine = explorer.machine
+    acts = list(machine.turns(turns.start, len(turns)))
+    after = (it.pc for it in [*acts[1:], *machine.turns(turns.stop, 1)] if acts)
+    for it, pc in zip(seen(explorer, acts), after):
+        size = instruction_of(explorer, it.turn.pc, list(it.words)).words if it.words else 0
+        if it.turn.act != "idle" and pc != it.turn.pc + 2 * size & 0o177777:
+            yield it
+
+
+def sent_here(explorer: Explorer, end: int) -> tuple[Optional[Branch], list[str]]:
+    """The last conditional branch before a turn, and lines about it and about the turns since."""
+    machine = explorer.machine
+    found, begin = last_branches(machine, end, 1) if end else ([], 0)
+    since = range(found[0].act.turn + 1 if found else begin, end)
+    last = since[-MOST_COUNT:]
+    lines = [f"PC before turn {end}: {machine.registers(end).pc:06o}"]
+    if found:
+        lines += [HEADING, *branch_lines(explorer, found, begin)]
+    else:
+        lines.append(f"no conditional branch in {span(since)}" if since else "no turn comes before")
+    if last != since:
+        lines.append(f"where PC went in {span(since[: -len(last)])} isn't shown")
+    lines += [it.line() for it in went_elsewhere(explorer, last)] if last else []
+    return (found[0] if found else None), lines
 
 
 @command(

@@ -1,6 +1,6 @@
 """Stops of one's own: `break`, `watch`, `catch`, `breakpoints`, `delete`, `continue`."""
 import re
-from typing import Iterator, Optional
+from typing import Iterator
 
 from ..core import sessions
 from ..core.errors import ExploreError
@@ -100,7 +100,7 @@ def condition_sought(explorer: Explorer, parts: list[str]) -> str:
         most = MOST_PARTS - (len(parts) - 1)
         raise ExploreError(
             f"'{parts[-1]}' is no CONDITION, which has {most} parts at most here; a CONDITION is "
-            f"{sessions.CONDITIONS}"
+            f"{sessions.CONDITIONS_HERE}"
         )
     return line[len(begin) :]
 
@@ -184,40 +184,46 @@ def reached_line(explorer: Explorer, point: Breakpoint, turn: int) -> str:
     return line + "".join(f": {it.writer} {it.word:06o}" for it in written)
 
 
-def reached_lines(
-    explorer: Explorer, reached: Optional[Reached], turns: range
-) -> Iterator[str]:
-    """Which breakpoints hold, and the turn, which is the current one then."""
-    if reached is None:
-        yield f"no breakpoint holds in {span(turns)}"
-        return
-    trail = turns_of(explorer.machine.read(f"trail {reached.turn + 1} 1"))
+def gone_on(explorer: Explorer, arguments: Arguments, turns: range, back: bool) -> Iterator[str]:
+    """The K-th turn of these at a breakpoint, which is the current one then, and which breakpoints
+    hold."""
+    count, machine, where = arguments.decimal("count", 1), explorer.machine, span(turns)
+    if count < 1:
+        raise ExploreError("K is 1 or more")
+    found = list[Reached]()
+    while len(found) < count:
+        reached = explorer.breakpoints.reached(machine, turns, back)
+        if reached is None:
+            held = f"breakpoints hold at {len(found)} of {where}"
+            yield held if found else f"no breakpoint holds in {where}"
+            return
+        found.append(reached)
+        turns = range(reached.turn) if back else range(reached.turn + 1, turns.stop)
+    reached = found[-1]
+    trail = turns_of(machine.read(f"trail {reached.turn + 1} 1"))
     lines = [it.line() for it in seen(explorer, trail)]
     explorer.turn = reached.turn
     yield from (reached_line(explorer, it, reached.turn) for it in reached.points)
     yield from lines
 
 
-@command("continue [to M]", r"{to}", "goes on to the next turn at a breakpoint")
+@command("continue [K] [to M]", r"<count:decimal>?{to}", "goes on to the next turn at a breakpoint")
 def continue_command(explorer: Explorer, arguments: Arguments) -> Iterator[str]:
-    """Goes on from the current turn to the first turn after it at which a breakpoint holds, says
-    which one, and shows the turn as `see` does; it is then the current turn. Without `to` the
-    search goes on to the end of the run: for turns that nothing has asked about yet it takes a
-    second or more for 100000000, and Ctrl-C ends it. It is exact."""
+    """Goes on from the current turn to the first turn after it at which a breakpoint holds, or to
+    the K-th, says which one holds, and shows the turn as `see` does; it is then the current turn.
+    Without `to` the search goes on to the end of the run: for turns that nothing has asked about
+    yet it takes a second or more for 100000000, and Ctrl-C ends it. It is exact."""
     check_set(explorer)
-    turns = turns_ahead(explorer, arguments)
-    reached = explorer.breakpoints.reached(explorer.machine, turns)
-    yield from reached_lines(explorer, reached, turns)
+    yield from gone_on(explorer, arguments, turns_ahead(explorer, arguments), back=False)
 
 
-@command("reverse-continue", r"", "goes back to the last turn at a breakpoint")
+@command("reverse-continue [K]", r"<count:decimal>?", "goes back to the last turn at a breakpoint")
 def reverse_continue(explorer: Explorer, arguments: Arguments) -> Iterator[str]:
-    """Goes back from the current turn to the last turn before it at which a breakpoint holds, says
-    which one, and shows the turn as `see` does; it is then the current turn. A search far back
-    takes as long as `continue` over these turns. A write is found at once. It is exact."""
+    """Goes back from the current turn to the last turn before it at which a breakpoint holds, or to
+    the K-th one back, says which one holds, and shows the turn as `see` does; it is then the
+    current turn. A search far back takes as long as `continue` over these turns. A write is found
+    at once. It is exact."""
     check_set(explorer)
-    turns = range(explorer.turn)
-    if not turns:
+    if not explorer.turn:
         raise ExploreError("the current turn is turn 0")
-    reached = explorer.breakpoints.reached(explorer.machine, turns, is_backwards=True)
-    yield from reached_lines(explorer, reached, turns)
+    yield from gone_on(explorer, arguments, range(explorer.turn), back=True)

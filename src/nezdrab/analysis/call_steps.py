@@ -4,8 +4,8 @@ from typing import Iterator, NamedTuple, Optional
 from ..core.engine import Machine
 from ..core.register_rows import KSP, PC, PLACE, POINTERS, STATUS, USP
 from ..core.replies import MODES, DiskFunction, Mode, Registers, Turn
+from ..core.turn_batches import Batch
 from ..core.values import dataclass
-from .batches import Batch
 from .finder import parts_of
 from .levels import JSR, NEAR_BYTES, WITH_NUMBER, WITHOUT, Done, is_load
 from .routines import Label, Labels

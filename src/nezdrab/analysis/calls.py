@@ -8,7 +8,7 @@ from .command import Arguments, command, turns_between
 from .explorer import Explorer
 from .levels import CHECKED_TURNS, MOST_WORDS_OF_A_STACK, Call, Level, Return, Stacks, call_in
 from .levels import loads_pointer, pointer
-from .stepping import shown
+from .stepping import each_step, shown
 
 HEADING = f"{'turn':>10}  {'mode':<6}  {'PC':<6}  {'call':<24}  to"
 
@@ -110,11 +110,20 @@ def reverse_finish(explorer: Explorer, arguments: Arguments) -> Iterator[str]:
     yield from shown(explorer, level.call.turn)
 
 
-@command("over [to M]", r"{to}", "steps over a call: to where its routine has returned")
+@command(
+    "over [K] [to M]",
+    r"<count:decimal>?{to}",
+    "steps over a call: to where its routine has returned",
+)
 def over(explorer: Explorer, arguments: Arguments) -> Iterator[str]:
     """Shows what `step` shows. But if the current turn is a JSR, an interrupt or a trap, it goes on
-    to where the routine has returned, as `finish` finds that. It isn't called `next`, since `next`
-    finds the next write. The search may take long, as that of `finish`."""
+    to where the routine has returned, as `finish` finds that. With K it does so K times. It isn't
+    called `next`, since `next` finds the next write. The search may take long, as that of
+    `finish`."""
+    yield from each_step(explorer, arguments, lambda: over_once(explorer, arguments))
+
+
+def over_once(explorer: Explorer, arguments: Arguments) -> Iterator[str]:
     turns = turns_ahead(explorer, arguments)
     call = call_in(explorer.machine, explorer.turn)
     if call is None:
@@ -135,11 +144,19 @@ def ended_levels(machine: Machine, turn: int) -> Iterator[Level]:
             yield level
 
 
-@command("reverse-over", r"", "steps back over a call: to the call, from where it has returned")
+@command(
+    "reverse-over [K]",
+    r"<count:decimal>?",
+    "steps back over a call: to the call, from where it has returned",
+)
 def reverse_over(explorer: Explorer, arguments: Arguments) -> Iterator[str]:
     """Shows what `back` shows. But if the turn before the current one returned from a routine, it
     goes back to the turn of the call. Of the levels of `calls` it takes the outermost that ended in
-    that turn."""
+    that turn. With K it does so K times."""
+    yield from each_step(explorer, arguments, lambda: reverse_over_once(explorer))
+
+
+def reverse_over_once(explorer: Explorer) -> Iterator[str]:
     turn = explorer.turn
     if turn == 0:
         raise ExploreError("the current turn is turn 0")

@@ -9,6 +9,7 @@ from ..core.errors import ExploreError
 from ..core.in_words import counted, span
 from ..core.places import is_register
 from ..core.values import dataclass
+from .changes_of_registers import check_alone, register_lines
 from .command import Arguments, command, searched_range
 from .disk_words import DiskWord, acts_in_words
 from .explorer import Explorer
@@ -18,7 +19,7 @@ from .search import WORD_OF_DISK, disk_word_of
 from .transfers import Transfer, transfers_in
 
 MOST_SHOWN, SHOWN_AT_ONCE, MOST_OF_A_RANGE = 256, 16, 4_096
-WORDS = r"<begin:address>\.\.<end:address>|<address:address>( <count:decimal>)?"
+WORDS = r"<begin:address>\.\.<end:address>|<address:place>( <count:decimal>)?"
 OF_DISK = rf"(?P<kind>disk) {WORD_OF_DISK}<index:octal>(\.\.<further:octal>)?"
 
 
@@ -166,7 +167,7 @@ def in_a_line(words: range) -> str:
     "changes A [C] [from N] [to M]  or  changes A..B [from N] [to M]"
     "  or  changes disk [D] I[..J] [from N] [to M]",
     rf"({OF_DISK}|{WORDS}){{from}}{{to}}",
-    "all values of a word, or of the words of a range, and who wrote them",
+    "all values of a word, of the words of a range or a register, and who wrote them",
 )
 def changes_command(explorer: Explorer, arguments: Arguments) -> Iterator[str]:
     """Lists each of the turns N to M that changes the core word at A, or word I of a drive: the
@@ -176,8 +177,16 @@ def changes_command(explorer: Explorer, arguments: Arguments) -> Iterator[str]:
     exact. After 256 changes, and all others of the last one's turn, the list is cut, and the last
     line says how it goes on. A write that leaves the word as it was is no change: the last line
     counts those to core, and `writes` lists them. If a turn writes a word more than once, only the
-    last write counts."""
-    turns, words = searched_range(explorer, arguments), words_of(arguments)
+    last write counts. A may be a register, as in `reads`: listed are the turns before and after
+    which a read of it would give different words, with their events, what comes out, and what the
+    processor does, be it the cause or not. Of TPB and PPB, which can't be read, they are the writes
+    of another word than the write before in these turns. A million turns take some 5 s."""
+    turns, address = searched_range(explorer, arguments), arguments.octal("address")
+    if is_register(address):
+        check_alone(arguments.text("count"))
+        yield from register_lines(explorer, turns, address)
+        return
+    words = words_of(arguments)
     machine = explorer.machine
     if arguments.optional("kind"):
         word = disk_word_of(explorer, arguments)

@@ -1,6 +1,7 @@
 """Finds turns, by the searches of the program search."""
 from typing import Callable, Iterable, Iterator, Optional, TypeVar
 
+from ..core.drive_searches import LARGEST_PART, growing
 from ..core.engine import Machine
 from ..core.places import is_register
 from ..core.register_search import reads_at, writes_at
@@ -8,8 +9,7 @@ from ..core.replies import LastWrite, WordRead
 from ..core.values import dataclass
 from .crew import Progress
 
-TURNS_OF_A_SEARCH = 10_000_000  # searched at once, in a tenth of a second or more
-TURNS_AT_FIRST = 16_384  # of a search for what is usually near
+TURNS_OF_A_SEARCH = LARGEST_PART  # searched at once, in a tenth of a second or more
 Item = TypeVar("Item")
 # A search that lists: lines for the first of some turns, and the turns that are left.
 Listing = Callable[[range], tuple[list[str], range]]
@@ -46,17 +46,12 @@ def with_bar(
 def growing_parts(
     turns: range, is_backwards: bool = False, largest: int = TURNS_OF_A_SEARCH
 ) -> Iterator[range]:
-    """The turns in parts that double, from the first turn on or from the last one back."""
-    size = TURNS_AT_FIRST
+    """The turns in parts that double, from the first turn on or from the last one back, with a
+    bar."""
     with Progress(len(turns), "turns") as progress:
-        while turns:
-            if is_backwards:
-                turns, part = turns[:-size], turns[-size:]
-            else:
-                part, turns = turns[:size], turns[size:]
+        for part in growing(turns, is_backwards, largest):
             yield part
             progress.step(len(part))
-            size = min(2 * size, largest)
 
 
 @dataclass(frozen=True)

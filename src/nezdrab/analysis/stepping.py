@@ -1,5 +1,5 @@
 """Words that people know from other debuggers: `step`, `back`, `run`."""
-from typing import Iterator
+from typing import Callable, Iterator
 
 from ..core.engine import LAST_TURN
 from ..core.errors import ExploreError
@@ -13,6 +13,20 @@ def shown(explorer: Explorer, turn: int) -> Iterator[str]:
         where = "before turn 0" if turn < 0 else f"after turn {LAST_TURN}"
         raise ExploreError(f"that is {where}: the current turn is {explorer.turn}")
     return show(explorer, Arguments({"turn": str(turn), "operands": None}))
+
+
+def each_step(
+    explorer: Explorer, arguments: Arguments, step_once: Callable[[], Iterator[str]]
+) -> Iterator[str]:
+    """What K steps show, or those up to one that leaves the current turn as it is."""
+    count = arguments.decimal("count", 1)
+    if count < 1:
+        raise ExploreError("K is 1 or more")
+    for _ in range(count):
+        before = explorer.turn
+        yield from step_once()
+        if explorer.turn == before:
+            return
 
 
 @command("step [K]", r"<count:decimal>?", "shows the turn after the current one, or the K-th")

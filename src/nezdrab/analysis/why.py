@@ -9,6 +9,7 @@ from ..core.values import dataclass
 from .account import MOST_ENDS, Account, ranges
 from .cells import ALL_CODES, NAMES, REST, TPB, byte_of_drive, drive_cell, is_of_drive, name_of
 from .cells import register_cells, word_cells
+from .branches import sent_here
 from .command import Arguments, command
 from .disk_words import DiskWord
 from .explorer import Explorer
@@ -17,7 +18,7 @@ from .operands import pointer_of
 from .origins import Graph, Kind, Origin, Origins
 from .steps import Step, Steps
 
-ASKED = ("[core] A", "disk [D] I", "R", "text [C]")
+ASKED = ("[core] A", "disk [D] I", "R", "PC", "text [C]")
 ELSEWHERE = "a write that went to another address, and might have come here, isn't found"
 MOST_STEPS, MOST_CHANGES, COUNTED_CHANGES = 2_000, 16, 64
 
@@ -36,6 +37,8 @@ def asked(explorer: Explorer, arguments: Arguments, turn: int) -> Asked:
     if register == "SP":
         number = pointer_of(explorer.machine.registers(turn).ps >> 14)
         return Asked(NAMES[number], register_cells(number))
+    if register == "PC":
+        return Asked("PC")
     if register in NAMES:
         return Asked(register, register_cells(NAMES.index(register)))
     if register:
@@ -133,7 +136,7 @@ def change_lines(account: Account, what: Asked, turn: int) -> Iterator[str]:
 
 @command(
     "  or  ".join(f"why {it} [at N] [steps C] [places]" for it in ASKED),
-    r"((?P<register>[Rr][0-5]|[KUku]?[Ss][Pp]|[Pp][Ss]|[NZVC])|(?P<text>text)( <count:decimal>)?"
+    r"((?P<register>[Rr][0-5]|[KUku]?[Ss][Pp]|[Pp][SsCc]|[NZVC])|(?P<text>text)( <count:decimal>)?"
     r"|(?P<disk>disk) ((?P<drive>[0-7]) )?<index:octal>|(core )?<address:address>)"
     r"( at <turn:decimal>)?( steps <steps:decimal>)?(?P<places> places)?",
     "what a word, a register or the end of the text is made of",
@@ -141,7 +144,9 @@ def change_lines(account: Account, what: Asked, turn: int) -> Iterator[str]:
 def why(explorer: Explorer, arguments: Arguments) -> Iterator[str]:
     """Shows what a word of core or of a drive, a register (R0 to R5, KSP, USP, SP, PS, or one of
     the codes N, Z, V and C), or the last C bytes of the text were made of before turn N: without
-    `at` the current turn. Each line has a value and `<-` the operation that made it. Below it
+    `at` the current turn. Of PC it shows what sent the program there: the last conditional branch,
+    as `branches` does, the last turns since then that went elsewhere, without a condition, and what
+    the codes were made of that the branch looked at. Each line has a value and `<-` the operation that made it. Below it
     stands what that was made of, and the part with the most behind it goes on at the same indent.
     Copies have no line, and many operations on one value have one, with what it was before them. At
     the end stand the events that the value is made of. 'Made of' is of data: what a branch decided
@@ -152,12 +157,22 @@ def why(explorer: Explorer, arguments: Arguments) -> Iterator[str]:
     what, most = asked(explorer, arguments, turn), arguments.decimal("steps", MOST_STEPS)
     if not most:
         raise ExploreError("C of steps is 1 or more")
+    end = turn
+    if what.name == "PC":
+        branch, lines = sent_here(explorer, end)
+        yield from lines
+        if branch is None:
+            explorer.turn = end
+            return
+        turn, cells = branch.act.turn, tuple(branch.sources)
+        what = Asked(", ".join(dict.fromkeys(map(name_of, cells))), cells)
     origins = Origins(machine, turn, bool(arguments.optional("places")))
     begins = roots(machine, origins, what, turn)
     graph = origins.graph([it.origin for it in begins], most)
     steps = Steps(origins, graph)
     account = Account(explorer, steps)
-    value = account.value(what.cells[0], turn) if what.cells else ""
+    is_one = what.cells and name_of(what.cells[0]) == name_of(what.cells[-1])
+    value = account.value(what.cells[0], turn) if is_one else ""
     yield f"{what.name} before turn {turn}{f': {value}' if value else ''}"
     add_roots(account, begins)
     yield from account.written()
@@ -165,4 +180,4 @@ def why(explorer: Explorer, arguments: Arguments) -> Iterator[str]:
     yield from [ELSEWHERE] if origins.places else []
     if what.cells and is_of_drive(what.cells[0]) and graph.is_whole:
         yield from change_lines(account, what, turn)
-    explorer.turn = turn
+    explorer.turn = end

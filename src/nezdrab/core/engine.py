@@ -4,13 +4,13 @@ from pathlib import Path
 from typing import TYPE_CHECKING, Iterator, Optional, Sequence, TypeVar
 
 from .asked import Asked
-from .program import ProgramEnded
+from .drive_searches import LAST_TURN as LAST_TURN, is_of_drive, reply_to
 from .errors import ExploreError
 from .interrupts import INTERRUPTS
 from .language import explanation, is_edit
 from .options import faults_of, options_of_words
 from .past import Event, Made, Setup, without_zeros
-from .program import Program, TimedOut
+from .program import Program, ProgramEnded, TimedOut
 from .replies import SPACES, Devices, LastWrite, Mode, Pages, Registers, Turn, TurnAccesses
 from .replies import accesses_of, listed, text_of, turns_of, words_of
 from .sessions import first_word
@@ -19,7 +19,6 @@ from .values import dataclass, field, replace
 if TYPE_CHECKING:
     from .journal import Journal
 
-LAST_TURN = 1_000_000_000
 MOST_TURNS_OF_A_TRAIL = 64
 MOST_WORDS = 256
 # How many lines are sent before their replies are looked at: those with long replies, and others.
@@ -223,11 +222,19 @@ class Machine:
 
     def ask_all(self, lines: Sequence[str], ahead: int = SENT_AHEAD) -> Iterator[str]:
         """The replies to lines, one by one. Edits among them aren't kept."""
+        for part in in_parts(lines, ahead):
+            if any(map(is_of_drive, part)):
+                for it in part:
+                    yield from [reply_to(self, it)] if is_of_drive(it) else self._together([it])
+            else:
+                yield from self._together(part)
+
+    def _together(self, lines: Sequence[str]) -> Iterator[str]:
+        """The replies to lines that are sent together."""
         with self._started_again():
-            for part in in_parts(lines, ahead):
-                replies = self.limited().replies(part)
-                self.asked.note(it for it, reply in zip(part, replies) if not is_refused(reply))
-                yield from replies
+            replies = self.limited().replies(lines)
+            self.asked.note(it for it, reply in zip(lines, replies) if not is_refused(reply))
+            yield from replies
 
     def blocks(self, lines: Sequence[str], reply_bytes: int) -> Iterator[bytes]:
         """The replies to many questions of one kind as bytes, some at a time: for searches, which

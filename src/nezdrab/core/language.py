@@ -146,7 +146,7 @@ def explanation(line: str, reply: str, version: int) -> str:
     if word in LISTS:
         return f"the form is: {word}"
     if word in SEARCHES and (word not in FORMS or len(words) > 1):
-        more = f"; a CONDITION is {sessions.CONDITIONS}" if "where" in words else ""
+        more = f"; a CONDITION is {sessions.CONDITIONS_HERE}" if "where" in words else ""
         return f"the forms are: {'; '.join(forms_of_searches(word))}{more}"
     if word not in FORMS:
         return f"there is no line '{word}'; help lists the topics"

@@ -36,12 +36,13 @@ from .session_file import made_edits
 from .struck import StruckKey, struck_keys
 from .symbols import ADDRESS, OCTAL, Symbols
 from .trials import Trials
+from .walks import Walks
 from .words import Core, Drive
 
 Answer = TypeVar("Answer")
 
 
-class Machine(Trials):
+class Machine(Trials, Walks):
     """A recorded PDP-11/40: what it starts from, the script of its events, and any turn of its run.
 
     `Machine(core="core.image", disk="rk05.disk", start=0o1000)` starts with these images; without

@@ -194,6 +194,9 @@ CONDITIONS = (
     "one to four of these with 'and' between them: X = Y, X != Y, X < Y, X > Y, X & W = W, at A, "
     "kernel or user. X is R0 to R5, KSP, USP, SP, PC, PS or core A; Y is such an X or W"
 )
+CONDITIONS_HERE = (  # in explore and in the package, by drive_searches
+    f"{CONDITIONS}. X or Y may be a word of the drive too, disk I, in version 2 disk D I"
+)
 BEFORE_ADDRESS = ("at", "core")
 # The events that `at` and `alter` name, each with the letter of its number, if it has one.
 EVENTS = {

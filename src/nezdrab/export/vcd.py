@@ -1,7 +1,7 @@
 """A range of turns as a value change dump, the file of GTKWave and other viewers of waves."""
 from typing import Iterable, Iterator, Optional, Sequence
 
-from ..analysis.batches import Batch, batches_of
+from ..analysis.batches import batches_of
 from ..analysis.call_steps import turns_with
 from ..analysis.explorer import Explorer
 from ..analysis.finder import Finder
@@ -10,6 +10,7 @@ from ..core.engine import Machine
 from ..core.in_words import span
 from ..core.register_rows import GENERAL, KSP, PC, PLACE, PS, STATE, USP
 from ..core.replies import DISK_READY, DiskFunction, Mode, Registers, Turn
+from ..core.turn_batches import Batch
 from ..core.values import dataclass
 
 # The registers that are shown, each with its part of a reply of `regs`.

@@ -1,5 +1,6 @@
 """Lines of other debuggers and simulators, gdb, rr and SIMH, and the lines for them here."""
 import re
+from typing import Optional
 
 from ..analysis.explorer import Explorer
 from ..core.engine import LAST_TURN
@@ -47,7 +48,9 @@ NO_BREAKPOINT = (
 )
 PAST = "`see {until} {turns}`; nothing has to be switched on for it"
 PARTS = "the registers are in `show`, the calls in `calls`, the breakpoints in `breakpoints`"
-ALL_REGISTERS = "`show` has all registers before turn {turn}"
+SAME = {"R6": "SP", "R7": "PC", "PSW": "PS", "SR": "SWR"}  # as gdb or SIMH names registers
+ALL_REGISTERS = "`show` has all registers"
+WORD = "{register} is {value:06o} before turn {turn}"
 
 NAMING = ("watch", "rwatch", "display")  # a register is typed after these without $ too
 # Each sentence has lines of explore, in `such quotes`; with one that it begins with, the word does
@@ -108,7 +111,11 @@ VIRTUAL = "`dump user A C` takes an address of a program, as `dump kernel A C` d
 REGISTER = r"\$?(?:r[0-7]|[ku]?sp|pc|psw?)"
 A = rf"[*&]*(?P<a>0x[0-9a-f]{{1,5}}|{ADDRESS})"
 N = "(?P<n>[0-9]{1,9})"
+NAMED = rf"(?P<register>{REGISTER})"
+DEVICE = "(?P<register>(?:rk|tk|tp|pr|pp|lk)[a-z]+|sw?r)"
+PRINTED = r"(?:\*(?=[0-7])|(?=[a-z_.]))(?P<a>0x[0-9a-f]{1,5}|[\w.]+)"
 TO = "(?P<a>[0-7]{1,6})(?:-(?P<last>[0-7]{1,6})|/(?P<bytes>[0-7]{1,6}))?"
+PRINT = "p print output"
 STOP, EXAMINE, DEPOSIT_WORDS = "b br bre break", "e ex exam examine", "dep deposit d set"
 LINES_WITH_ARGUMENTS = [
     (STOP, rf"{A}(?P<more> if .+)?", "`break {a}{more}`, then `continue`"),
@@ -120,18 +127,24 @@ LINES_WITH_ARGUMENTS = [
     ("goto", N, "`show {n}` shows turn {n}, and makes it the current one"),
     ("goto", A, COMES),
     ("s si step stepi", N, "`step {n}`"),
+    ("n ni nexti", N, "`over {n}`"),
+    ("c cont", N, "`continue {n}`"),
+    ("rs rsi reverse-step reverse-stepi", N, "`back {n}`"),
+    ("rn rni reverse-next reverse-nexti", N, "`reverse-over {n}`"),
+    ("rc", N, "`reverse-continue {n}`"),
     ("watch rwatch", REGISTER, NO_BREAKPOINT),
     ("watch rwatch", A, "`{word} {a}`, then `continue`"),
     ("awatch", A, "reads and writes have a breakpoint each: `rwatch {a}`, `watch {a}`"),
     ("disas disassemble l", f"{A}(?:,.*)?", "`list {space} {a} 16`"),
     ("display", REGISTER, "`display show` shows all registers after each move"),
     ("display", A, "`display dump {a} 1` shows the word after each move"),
-    ("p print output", f"(?=[*a-z_.]){A}", "`dump {a} 1`"),
-    (f"{EXAMINE} p print output", f"{REGISTER}|st.*|cpu.*", ALL_REGISTERS),
+    (PRINT, PRINTED, "`dump {a} 1`"),
+    (f"{EXAMINE} {PRINT}", NAMED, f"{WORD}; {ALL_REGISTERS}"),
+    (EXAMINE, "st.*|cpu.*", ALL_REGISTERS),
     (EXAMINE, TO, "`dump {a} {count}`"),
     (EXAMINE, f"-m {TO}", "`list {a} {count}`"),
     (EXAMINE, A, "`dump {a} 1`"),
-    (EXAMINE, "(?:rk|tk|tp|pr|pp|lk)[a-z]+|sw?r", "`devices {turn}` has the registers of devices"),
+    (f"{EXAMINE} {PRINT}", DEVICE, f"{WORD}; `devices {{turn}}` has all registers of devices"),
     ("d", N, "`delete {n}`"),
     (DEPOSIT_WORDS, rf"(?:var )?\$?(?:pc|r7)[ =]+{A}", "the start is the option --start; " + COMES),
     (DEPOSIT_WORDS, rf"(?:var )?{REGISTER}[ =].+", NO_REGISTER),
@@ -164,14 +177,25 @@ LINES_WITH_ARGUMENTS = [
 ]
 
 
+class Value(str):
+    """A sentence that tells a value, and leads to no line."""
+
+
+def word_of(explorer: Explorer, text: str) -> Optional[int]:
+    """The word of a register as gdb or SIMH names it, such as `$r0` and `rkcs`, or None."""
+    machine, turn, name = explorer.machine, explorer.turn, text.lstrip("$").upper()
+    registers, name = machine.registers(turn), SAME.get(name, name)
+    word = {**registers.words, "SP": registers.sp}.get(name)
+    return machine.devices(turn).words.get(name) if word is None else word
+
+
 def number_of(explorer: Explorer, text: str) -> str:
     """An address or a word as it is typed here, or an empty text: `0x200` is 1000, `$pc` the word
     that PC has. A symbol must be known."""
-    if re.match("0x", text, re.I):
+    if re.fullmatch("0x[0-9a-f]+", text, re.I):
         return f"{int(text, 16):o}"
-    registers = explorer.machine.registers(explorer.turn)
-    word = {**registers.words, "SP": registers.sp}.get(text[1:].upper())
-    if text[:1] == "$" and word is not None:
+    word = word_of(explorer, text) if text[:1] == "$" else None
+    if word is not None:
         return f"{word:o}"
     try:
         explorer.symbols.number(text)
@@ -194,12 +218,14 @@ def filled(explorer: Explorer, word: str, found: "re.Match[str]", said: str) -> 
         parts["a"] = number_of(explorer, parts["a"])
     if re.match("0x", parts.get("w", ""), re.I):
         parts["w"] = number_of(explorer, parts["w"])
-    if parts.get("a") == "":
+    value = word_of(explorer, parts["register"]) if "register" in parts else 0
+    if parts.get("a") == "" or value is None:
         return ""
     length = int(last, 8) - int(parts["a"], 8) if last else int(size or "1", 8) - 1
     turns = parts.setdefault("turns", "") or "20"
     named = {**parts, "turns": turns, "until": turn or turns, "count": max(1, length // 2 + 1)}
-    return said.format(word=word, turn=turn, space=space_of(explorer), **named)
+    text = said.format(word=word, turn=turn, space=space_of(explorer), value=value, **named)
+    return Value(text) if "register" in parts else text
 
 
 def led_on(explorer: Explorer, word: str, rest: str) -> str:
@@ -208,16 +234,42 @@ def led_on(explorer: Explorer, word: str, rest: str) -> str:
     name, place = word.lower(), rest.lstrip("*&")
     if "/" in name and name.startswith("display"):
         name = name.partition("/")[0] if not name.endswith("i") and rest else "layout"
-    elif "/" in name:
-        address = number_of(explorer, place) if re.match(r"\$|0x", place, re.I) else ""
-        line = line_of(examined(name, address)) if address else ""
-        return line and f"`{line.replace('dump', f'dump {space_of(explorer)}', 1)}`"
+    elif "/" in name or name == "x" and rest:
+        return looked_at(explorer, name if "/" in name else "x/1", rest)
     if name == "layout":
         return DISPLAYED
     rows = (it for it in LINES_WITH_ARGUMENTS if name in it[0].split())
     matches = ((re.fullmatch(pattern, rest, re.I), said) for _, pattern, said in rows)
     sentences = (filled(explorer, name, found, said) for found, said in matches if found)
-    return next(filter(None, sentences), "")
+    return next(filter(None, sentences), "") or worked_out(explorer, name, rest)
+
+
+def looked_at(explorer: Explorer, word: str, rest: str) -> str:
+    """The same of `p/x $r0`, and of `x/4 $sp+2`, whose address is a program's."""
+    name, _, how = word.partition("/")
+    value, place = worked_out(explorer, name, rest, how), rest.lstrip("*&")
+    if value or not re.search(r"\$|0x", place, re.I):
+        return value or examined(word, rest)
+    address = number_of(explorer, place) or octal_of(explorer, place)
+    line = line_of(examined(word, address)) if address else ""
+    return line and f"`{line.replace('dump', f'dump {space_of(explorer)}', 1)}`"
+
+
+def worked_out(explorer: Explorer, word: str, text: str, how: str = "") -> str:
+    """What an expression comes to that gdb prints, or an empty text."""
+    if word not in PRINT.split():
+        return ""
+    from .arithmetic import sentence_about  # which few lines need
+
+    said = sentence_about(explorer, text, how)
+    return Value(said) if said else ""
+
+
+def octal_of(explorer: Explorer, text: str) -> str:
+    from .arithmetic import Expression  # which few lines need
+
+    number = Expression(explorer, text).value()
+    return "" if number is None else f"{number:o}"
 
 
 def names_register(explorer: Explorer, word: str, rest: str) -> bool:

@@ -22,7 +22,7 @@ from ..core.language import forms_of_searches, is_decimal, is_edit
 from .commands import COMMANDS, ENDS
 from .completion import HELP, completions
 from .display import definition_line, displays_after_move
-from .foreign import led_on, line_of, names_register, sentence
+from .foreign import Value, led_on, line_of, names_register, sentence
 from .mapped import MAPPED_HELP, MAPPED_WORDS, in_core
 from .output import LINES, Unwritable, fault_in_words, flush, put
 from .topics import LINES as LINES_OF, SESSION, TOPICS, command_lines, commands_of, forms_in_lines
@@ -52,7 +52,7 @@ FINDING = ("last", "first", "latest", "change", "when", "fades")
 # The commands that an empty line does again.
 STEPS = {"step", "back", "reverse-continue", "reverse-over", "reverse-finish"}
 STEPS |= {"continue", "over", "finish"}
-CONDITION_HELP = f"A CONDITION is {sessions.CONDITIONS}"
+CONDITION_HELP = f"A CONDITION is {sessions.CONDITIONS_HERE}"
 NUMBERS = (
     "A, X, I, J, D, V, W, B and a mask K are octal, N, M, T, C, E, F and other K decimal. A and X "
     "may be a symbol, with octal numbers after + and -. A question about turn N is about the "
@@ -281,7 +281,7 @@ class Prompt(Interpreter):
         """What a line of gdb or SIMH shows: the sentence about it, and what the line that this
         begins with shows. An error if there is none."""
         line = line_of(said, rest) if is_done else ""
-        if not line:
+        if not line and not isinstance(said, Value):
             raise ExploreError(said)
         yield said
         yield from self.lines(line)

@@ -6,8 +6,11 @@ from typing import Callable, NamedTuple
 
 from nezdrab.core.engine import Machine
 from nezdrab.core.replies import Registers
+from nezdrab.dap.evaluate import Console, done
 
+from .machines import LEDGER as OF_EDITOR, OnMachine
 from .systems import KEYS, LEDGER, OfSystems
+from .terminal import AtTerminal
 
 # By the upper bits of the word, from bit 9 on: whether the branch with bit 8 set is taken.
 TAKEN: dict[int, Callable[[int, int, int, int], int]] = {
@@ -79,6 +82,54 @@ class BruteForce(OfSystems):
                 self.assertEqual(said(before, source[1]), source[1], line)
                 self.assertEqual(said(after, source[1]), source[1], line)
 
+    def test_why_the_program_came_there(self) -> None:
+        """The last branch, the turns since then that went elsewhere, and why its code was so."""
+        chance, whys, others = random.Random(5), 0, 0
+        for words, turns in ((LEDGER, range(3_000, 238_000)), (KEYS, range(1_000, 20_000))):
+            machine = self.machine(words)
+            for end in chance.sample(turns, 8):
+                (branch,) = self.before(machine, end, 1)
+                first, _, *shown = self.explore(f"why PC at {end}\n", *words).splitlines()
+                self.assertEqual(first, f"PC before turn {end}: {machine.registers(end).pc:06o}")
+                row = ROW.fullmatch(shown[0])
+                self.assertEqual(row and (int(row[1]), row[2] == "taken"), branch, shown[0])
+                rows = [it for it in shown[1:] if it[:10].strip().isdigit() and it[10:12] == "  "]
+                found = [int(it.split()[0]) for it in rows]
+                self.assertEqual(found, self.elsewhere(machine, range(branch.turn + 1, end)))
+                others += len(found)
+                codes = [it for it in shown if it.startswith(" " * 36)]
+                if len(codes) == 1 and codes[0].split()[0] in "NZVC":
+                    code = codes[0].split()[0]
+                    why = self.explore(f"why {code} at {branch.turn}\n", *words).splitlines()
+                    self.assertEqual(shown[-len(why) :], why)
+                    whys += 1
+        self.assertGreater(min(whys, others), 2)
+
+    def elsewhere(self, machine: Machine, turns: range) -> list[int]:
+        """The turns after which PC isn't right behind what it was, by the cycles that fetch."""
+        found = list[int]()
+        for turn in turns:
+            (it,), _ = machine.accesses(range(turn, turn + 1))
+            pc, after = it.turn.pc, machine.registers(turn + 1).pc
+            place = next((cycle.address for cycle in it.cycles), None)
+            fetched = {cycle.address for cycle in it.cycles}
+            behind = 0
+            while place is not None and place + behind in fetched and behind < 6:
+                behind += 2
+            is_next = after - pc in range(2, behind + 1, 2)
+            found += [] if is_next or it.turn.act == "idle" else [turn]
+        return found
+
+    def test_why_pc_where_no_branch_is(self) -> None:
+        said = self.explore("core 1000 777\nwhy PC\nwhy pc at 3\nwhy PC at 90\n").splitlines()[1:]
+        row = "  kernel  001000  001000  BR 1000"
+        rows = [f"{it:>10}{row}" for it in range(90)]
+        start, none = "PC before turn {}: 001000", "no conditional branch in the turns 0 to {}"
+        self.assertEqual(said[:2], [start.format(0), "no turn comes before"])
+        self.assertEqual(said[2:7], [start.format(3), none.format(2), *rows[:3]])
+        cut = "where PC went in the turns 0 to 25 isn't shown"
+        self.assertEqual(said[7:], [start.format(90), none.format(89), cut, *rows[26:]])
+
     def test_what_decided_them(self) -> None:
         """MOV #3,R0; CLR R1; SOB R0,.-2; CMP R0,R1; BLE .+2; BHI .-2; SEC; BCS .; HALT."""
         words = "12700 3 5001 77002 20001 3401 101000 261 103400 0"
@@ -97,6 +148,37 @@ class BruteForce(OfSystems):
         self.assertEqual(shown[1:7], wanted)
         none = "0 conditional branches in turn 0"
         self.assertEqual(shown[-2:], ["5 conditional branches in the turns 0 to 11", none])
+
+
+class Elsewhere(OnMachine):
+    def test_in_an_editors_console(self) -> None:
+        """The lines of this and of other questions, as explore has them."""
+        explorer, shown = self.explorer(OF_EDITOR), list[str]()
+        console = Console(explorer, shown.append)
+        for line in (
+            "branches 3000 2",
+            "why PC at 3000",
+            "extremes 3000 3400",
+            "first 0 200000 where disk 0 = 132",
+            "changes TPB from 3000 to 3700",
+            "log at 1110 from 3000 to 3100 : {R0}",
+        ):
+            wanted = self.explore(f"{line}\n", *LEDGER)
+            self.assertEqual(f"{done(console, line, 5)}\n", wanted, line)
+
+
+class Terminal(AtTerminal):
+    def test_why_pc_before_the_current_turn(self) -> None:
+        self.begin(*LEDGER)
+        self.type("show 199980\n")
+        self.type("why PC\n")
+        self.wait_for(b"PC before turn 199980: 001122")
+        self.wait_for(b"BEQ 1374  taken")
+        self.wait_for(b"BR 1110")
+        self.wait_for(b"Z before turn 199972: 1")
+        self.type("show\n")
+        self.wait_for(b"before turn 199980: ")
+        self.end()
 
 
 def said(registers: Registers, values: str) -> str:

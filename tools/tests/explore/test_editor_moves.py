@@ -4,7 +4,7 @@ from typing import Iterator, Optional
 
 from checks.word_reads import first_reads_in
 from nezdrab.analysis.explorer import Explorer
-from nezdrab.analysis.finder import TURNS_AT_FIRST
+from nezdrab.core.drive_searches import FIRST_PART
 from nezdrab.analysis.levels import Stacks
 from nezdrab.core.engine import SHORT_SENT_AHEAD
 from nezdrab.core.replies import Registers, Turn
@@ -350,14 +350,14 @@ class Going(OfEditors):
         run = ahead(explorer, 100_000)
         next(run)
         next(run)
-        self.assertEqual(explorer.turn, TURNS_AT_FIRST - 1)
-        half = TURNS_AT_FIRST // 2
+        self.assertEqual(explorer.turn, FIRST_PART - 1)
+        half = FIRST_PART // 2
         list(COMMANDS["break"].lines(explorer, f"1000 if R0 = {half:o}"))
         run = ahead(explorer, 100_000)
         with self.assertRaises(StopIteration) as end:
             while True:
                 next(run)
-        self.assertEqual(end.exception.value.turn, TURNS_AT_FIRST)
+        self.assertEqual(end.exception.value.turn, FIRST_PART)
 
     def test_two_that_stop_before_one_turn(self) -> None:
         """A write, and the instruction behind it."""

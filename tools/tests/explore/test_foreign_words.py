@@ -28,6 +28,14 @@ FIRST_LINES = (
     ("s", "step"),
     ("s 3", "step 3"),
     ("n", "over"),
+    ("n 3", "over 3"),
+    ("rs 2", "back 2"),
+    ("rn 2", "reverse-over 2"),
+    ("c 5", "continue 5"),
+    ("rc 2", "reverse-continue 2"),
+    ("x 0x200", "dump kernel 1000 1"),
+    ("x COUNT", "dump COUNT 1"),
+    ("x/4 $sp+2", "dump kernel 700 4"),
     ("bt", "calls"),
     ("where", "calls"),
     ("info registers", "show"),
@@ -112,7 +120,8 @@ FIRST_LINES = (
     ("reset", "console from 0"),
 )
 DONE = ("b 1000 if R0==5", "c", "s 3", "n", "bt", "x/4xw $sp", "d 1", "e 1000/10", "d 2000 5")
-EXAMINED = ("x/20i 1000", "x/20i $pc", "x/8o 1000", "x/8b 1000", "x/5c", "x/0", "p/d 1000", "ex/4")
+DONE += ("n 3", "rs 2", "rn 2", "c 5", "rc 2", "x 0x200", "x/4 $sp+2", "x COUNT")
+EXAMINED = ("x/20i 1000", "x/20i $pc", "x/8o 1000", "x/8b 1000", "x/5c", "x/0", "ex/4")
 # What stands for the letters when a line is typed.
 TYPED = {
     **{"A": "1000", "C": "3", "N": "5", "M": "9", "W": "777", "E": "1", "L": "printer"},
@@ -255,8 +264,8 @@ class Leads(OnMachine):
             self.assertEqual(shown, list(self.prompt().lines(own)), line)
 
     def test_what_is_no_line_is_told(self) -> None:
-        """An expression, a count, a register that is set."""
-        told = ("p 5", "p $r0+1", "p &COUNT", "n 3", "c 5", "d pc 1000", "d r0 5", "run 1000")
+        """What is no expression, a register that is set."""
+        told = ("p 5+", "p )", "p 5/0", "p 8", "d pc 1000", "d r0 5", "run 1000")
         for line in (*told, "jump 1000", "record", "boot rk0", "apropos x", "awatch *0x200"):
             made = self.prompt()
             before = list(made.explorer.machine.journal), made.explorer.turn

@@ -1,0 +1,39 @@
+"""All turns of a range, one after the other: the registers before each, and its act."""
+import re
+from typing import Iterator
+
+from .engine import Machine
+from .replies import Turn
+from .values import dataclass
+
+TURNS_OF_A_BATCH = 4_096
+NO_INSTRUCTION = re.compile(r"^[0-9]+ [0-7]{6} (?!instr).+$", re.MULTILINE)
+
+
+@dataclass(frozen=True)
+class Batch:
+    """Turns that follow one another, the replies of `regs` before each of them and after the last,
+    and those turns that begin no instruction."""
+
+    turns: range
+    registers: list[bytes]
+    others: dict[int, Turn]
+
+
+def registers_of(machine: Machine, turns: range) -> list[bytes]:
+    return [reply for block in machine.of_each_turn("regs", turns) for reply in block]
+
+
+def others_of(machine: Machine, turns: range) -> dict[int, Turn]:
+    """The turns that begin no instruction."""
+    replies = machine.read_all(machine.trail_lines(turns.start, len(turns)))
+    found = (Turn.of(line[0]) for reply in replies for line in NO_INSTRUCTION.finditer(reply))
+    return {it.turn: it for it in found}
+
+
+def batches(machine: Machine, turns: range) -> Iterator[Batch]:
+    """The turns in batches."""
+    for at in range(turns.start, turns.stop, TURNS_OF_A_BATCH):
+        part = range(at, min(at + TURNS_OF_A_BATCH, turns.stop))
+        registers = registers_of(machine, range(part.start, part.stop + 1))
+        yield Batch(part, registers, others_of(machine, part))
