@@ -165,13 +165,13 @@ LINES_WITH_ARGUMENTS = [
 
 
 def number_of(explorer: Explorer, text: str) -> str:
-    """An address or a word as it is typed here, or an empty text: `0x200` is 1000, `$pc` the word
-    that PC has. A symbol must be known."""
+    """An address or a word as it is typed here, or an empty text: `0x200` is 1000, `$pc` and `pc`
+    are the word that PC has. A symbol must be known."""
     if re.match("0x", text, re.I):
         return f"{int(text, 16):o}"
     registers = explorer.machine.registers(explorer.turn)
-    word = {**registers.words, "SP": registers.sp}.get(text[1:].upper())
-    if text[:1] == "$" and word is not None:
+    word = {**registers.words, "SP": registers.sp}.get(text.lstrip("$").upper())
+    if word is not None:
         return f"{word:o}"
     try:
         explorer.symbols.number(text)
