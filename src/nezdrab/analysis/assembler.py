@@ -197,7 +197,7 @@ Field = Callable[[Assembly, str], Bits]
 
 
 @dataclass(frozen=True)
-class Kind:
+class Format:
     """Instructions with the same operands: what these are, the field of each and the bits that it
     is moved by, and the words without them."""
 
@@ -221,8 +221,8 @@ class Kind:
 
 
 KINDS = (
-    Kind("no operand", (), "HALT 0 WAIT 1 RTI 2 BPT 3 IOT 4 RESET 5 RTT 6 RETURN 207"),
-    Kind(
+    Format("no operand", (), "HALT 0 WAIT 1 RTI 2 BPT 3 IOT 4 RESET 5 RTT 6 RETURN 207"),
+    Format(
         "one operand",
         ((Assembly.operand, 0),),
         "JMP 100 CALL 4700 SWAB 300 CLR 5000 COM 5100 INC 5200 DEC 5300 NEG 5400 ADC 5500 SBC 5600"
@@ -230,32 +230,32 @@ KINDS = (
         " COMB 105100 INCB 105200 DECB 105300 NEGB 105400 ADCB 105500 SBCB 105600 TSTB 105700"
         " RORB 106000 ROLB 106100 ASRB 106200 ASLB 106300",
     ),
-    Kind(
+    Format(
         "a source and a destination",
         ((Assembly.operand, 6), (Assembly.operand, 0)),
         "MOV 10000 CMP 20000 BIT 30000 BIC 40000 BIS 50000 ADD 60000 MOVB 110000 CMPB 120000"
         " BITB 130000 BICB 140000 BISB 150000 SUB 160000",
     ),
-    Kind(
+    Format(
         "a register and a destination",
         ((Assembly.register, 6), (Assembly.operand, 0)),
         "JSR 4000 XOR 74000",
     ),
-    Kind(
+    Format(
         "a source and a register",
         ((Assembly.operand, 0), (Assembly.register, 6)),
         "MUL 70000 DIV 71000 ASH 72000 ASHC 73000",
     ),
-    Kind("a register", ((Assembly.register, 0),), "RTS 200"),
-    Kind(
+    Format("a register", ((Assembly.register, 0),), "RTS 200"),
+    Format(
         "an address",
         ((Assembly.branch, 0),),
         "BR 400 BNE 1000 BEQ 1400 BGE 2000 BLT 2400 BGT 3000 BLE 3400 BPL 100000 BMI 100400"
         " BHI 101000 BLOS 101400 BVC 102000 BVS 102400 BCC 103000 BCS 103400",
     ),
-    Kind("a register and an address", ((Assembly.register, 6), (Assembly.loop, 0)), "SOB 77000"),
-    Kind("a number", ((Assembly.code, 0),), "EMT 104000 TRAP 104400", usual="0"),
-    Kind("a number", ((Assembly.count, 0),), "MARK 6400"),
+    Format("a register and an address", ((Assembly.register, 6), (Assembly.loop, 0)), "SOB 77000"),
+    Format("a number", ((Assembly.code, 0),), "EMT 104000 TRAP 104400", usual="0"),
+    Format("a number", ((Assembly.count, 0),), "MARK 6400"),
 )
 INSTRUCTIONS = {
     name: (kind, int(opcode, 8))

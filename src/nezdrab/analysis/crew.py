@@ -1,10 +1,11 @@
-"""Several programs at work on one list of tasks, and a progress bar."""
+"""Several programs at work on one list of tasks; a progress bar, and a sign on standard error, if
+that is a terminal, that a long question is at work."""
 import os
 import queue
 import sys
 import threading
 import time
-from contextlib import closing
+from contextlib import closing, contextmanager
 from operator import length_hint
 from typing import Callable, ClassVar, Iterable, Iterator, Optional, TypeVar
 
@@ -12,6 +13,7 @@ from ..core.engine import Machine
 from ..core.errors import ExploreError
 from ..core.interrupts import INTERRUPTS
 from ..core.values import dataclass
+from ..core.visible import visible
 
 Task = TypeVar("Task")
 Result = TypeVar("Result")
@@ -122,3 +124,74 @@ def each_of(
         stop.set()
         for twin in twins:
             twin.close()
+
+
+SECONDS_WITHOUT, SECONDS_BETWEEN = 0.7, 0.2
+
+
+class AtWork:
+    """While a line is done, shows how long it has been at work since it last showed something. A
+    bar of a search takes its place."""
+
+    is_hidden: ClassVar[bool] = False
+
+    def __init__(self, what: str):
+        self.what = visible(what)
+        self.is_shown = sys.stderr.isatty()
+        self.lock = threading.Lock()
+        self.ended = threading.Event()
+        self.since = time.monotonic()
+        self.written = ""
+        self.thread: Optional[threading.Thread] = None
+
+    @classmethod
+    @contextmanager
+    def hidden(cls) -> Iterator[None]:
+        """A part that has the terminal to itself."""
+        cls.is_hidden = True
+        try:
+            yield
+        finally:
+            cls.is_hidden = False
+
+    def __enter__(self) -> "AtWork":
+        if self.is_shown:
+            self.thread = threading.Thread(target=self._watch, daemon=True)
+            self.thread.start()
+        return self
+
+    def __exit__(self, *what: object) -> None:
+        self.ended.set()
+        self.shows()
+        if self.thread:
+            self.thread.join()
+
+    def shows(self) -> None:
+        """A line is shown now: the sign goes, and time counts from here."""
+        with self.lock:
+            self.since = time.monotonic()
+            self._clear()
+
+    def _clear(self) -> None:
+        if self.written:
+            self._write(" " * len(self.written) + "\r")
+            self.written = ""
+
+    def _write(self, text: str) -> None:
+        try:
+            sys.stderr.write(f"\r{text}")
+            sys.stderr.flush()
+            self.written = text
+        except OSError:
+            self.ended.set()
+
+    def _watch(self) -> None:
+        while not self.ended.wait(SECONDS_BETWEEN):
+            with self.lock:
+                seconds = time.monotonic() - self.since
+                if seconds < SECONDS_WITHOUT or self.ended.is_set() or self.is_hidden:
+                    continue
+                if Progress.bars:
+                    self.written = ""  # the bar stands over it
+                else:
+                    self._write(f"{self.what}: at work, {seconds:.0f} s ")

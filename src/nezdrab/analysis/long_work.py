@@ -15,8 +15,7 @@ from ..core.interrupts import INTERRUPTS, typed_line
 from ..core.language import MOST_DIGITS, is_decimal
 from ..core.programs import own_command
 from ..core.sessions import first_word
-from .at_work import AtWork
-from .crew import processors
+from .crew import AtWork, processors
 from .explorer import Explorer
 from .quotes import WORD, file_of, files_of, quote_fault
 from .script import session_lines

@@ -14,7 +14,7 @@ from ..core.values import dataclass, field
 from .command import Arguments, command
 from .crew import Progress, each_of
 from .explorer import Explorer
-from .matters_table import Row, table
+from .matters_table import EventRow, table
 from .moves import Change, Moves, Task, Trial, Tried, Way, common, named_events
 from .long_work import job_lines, kept_in, read_files, stopped_work
 from .sought_reply import is_reply, reply_of_turn
@@ -81,8 +81,8 @@ class Results:
         self.of(event, Way(found["way"])).add(range(first, last + 1), change)
         return ""
 
-    def rows(self, events: Iterable[Event]) -> list[Row]:
-        return [Row(it, {way: self.of(it, way) for way in Way}) for it in events]
+    def rows(self, events: Iterable[Event]) -> list[EventRow]:
+        return [EventRow(it, {way: self.of(it, way) for way in Way}) for it in events]
 
     def count(self, event: Event, way: Way, moves: range) -> int:
         """How many of these moves are known."""

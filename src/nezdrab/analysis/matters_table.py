@@ -18,7 +18,7 @@ TO_THE_RIGHT = 2  # columns, of numbers
 
 
 @dataclass(frozen=True)
-class Row:
+class EventRow:
     """An event, and what is known of its moves."""
 
     event: Event
@@ -57,7 +57,7 @@ def dropped_cell(tried: Tried, beside: "Beside", same: str) -> str:
     return same if tried.known else "not tried"
 
 
-def moved_cell(row: Row, way: Way, beside: "Beside", is_near: bool, same: str) -> str:
+def moved_cell(row: EventRow, way: Way, beside: "Beside", is_near: bool, same: str) -> str:
     tried, event = row.tried[way], row.event
     if tried.change:
         doubt = "" if is_near or tried.is_nearest else " or less"
@@ -118,13 +118,13 @@ def parts_of(reply: str) -> list[str]:
 
 
 def table(
-    question: str, reply: str, rows: Sequence[Row], is_near: bool, until: str
+    question: str, reply: str, rows: Sequence[EventRow], is_near: bool, until: str
 ) -> Iterator[str]:
     shown = reply if len(reply) <= LONGEST_REPLY else f"..{reply[-LONGEST_REPLY:]}"
     yield f"matters: {question}    {shown}{f'    until {until}' if until else ''}"
     changes = [tried.change for it in rows for tried in it.tried.values()]
     beside = Beside(reply, (it.reply for it in changes if it))
-    rows = sorted(rows, key=Row.order)
+    rows = sorted(rows, key=EventRow.order)
     cells = [it.cells(beside, is_near, "no" if until else "same") for it in rows]
     if not cells:
         yield "no event is tried"
@@ -136,7 +136,7 @@ def table(
             it.rjust(width) if at < TO_THE_RIGHT else it.ljust(width)
             for at, (it, width) in enumerate(zip(row, widths))
         ).rstrip()
-    nearest = next(filter(None, map(Row.nearest, rows)), "none") if until else ""
+    nearest = next(filter(None, map(EventRow.nearest, rows)), "none") if until else ""
     found = f"; the nearest change found: {nearest}" if until else ""
     yield counted(len(rows), "event") + found + (NEAR if is_near else "")
 

@@ -36,7 +36,7 @@ def begins_as_aout(data: bytes) -> bool:
 
 
 @dataclass(frozen=True)
-class Program:
+class AOut:
     """An a.out, with the places of its parts as its own addresses have them."""
 
     magic: int
@@ -79,7 +79,7 @@ class Program:
         return f"{counted(len(self.text), 'byte')} of text at 0, {data}, {self.bss} of bss"
 
 
-def program_of(data: bytes) -> Program:
+def aout_of(data: bytes) -> AOut:
     """The program in a file, or an error that says what is wrong."""
     if len(data) < HEAD.size:
         raise ExploreError(f"the file ends in the head, which has {HEAD.size} bytes")
@@ -95,7 +95,7 @@ def program_of(data: bytes) -> Program:
         raise ExploreError(f"{sizes}; {AS_WORDS}")
     at = HEAD.size + text
     found, odd = symbols_of(data[start_of_symbols:end], data[end:])
-    return Program(magic, data[HEAD.size : at], data[at : at + words], bss, entry, found, odd)
+    return AOut(magic, data[HEAD.size : at], data[at : at + words], bss, entry, found, odd)
 
 
 def symbols_of(table: bytes, rest: bytes) -> tuple[list[Symbol], list[str]]:
@@ -153,7 +153,7 @@ def names_of(path: Path) -> SymbolFile:
     check_known(path, data)
     if begins_as_aout(data):
         try:
-            program = program_of(data)
+            program = aout_of(data)
             found = SymbolFile(OF_PROGRAM, program.symbols, 0, program.odd_in_words)
         except ExploreError as error:
             raise ExploreError(f"{path}: {error}") from None

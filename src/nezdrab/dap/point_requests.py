@@ -9,7 +9,7 @@ from .client import Client, request
 from .evaluate import before
 from .points import ACCESSES, DATA, FUNCTIONS, INSTRUCTIONS, LINES, VECTORS
 from .sources import Place
-from .variables import Scope, variables
+from .frames import Scope, variables
 from .wire import Fields, Object
 
 

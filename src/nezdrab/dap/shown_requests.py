@@ -5,9 +5,8 @@ from ..shell.prompt import Ended
 from . import memory
 from .client import Client, request
 from .evaluate import done, targets, watched
-from .frames import Frame, shown
+from .frames import SCOPES, Frame, Scope, edit_for, shown, variables
 from .running import Stop
-from .variables import SCOPES, Scope, edit_for, variables
 from .wire import Fields, Object
 
 

@@ -28,7 +28,7 @@ ENDINGS = "FILE ends in .vcd, .callgrind, .folded or .lcov"
 
 
 @dataclass(frozen=True)
-class Kind:
+class FileKind:
     """A kind of file: the most turns it may have, how many are written in a second on a usual
     computer, and how many bytes each takes; and what writes it."""
 
@@ -131,14 +131,14 @@ def write_lcov(export: Export) -> Iterator[str]:
 
 
 KINDS = {
-    ".vcd": Kind(2_000_000, 60_000, 45, write_dump),
-    ".callgrind": Kind(20_000_000, 100_000, 0, write_callgrind),
-    ".folded": Kind(20_000_000, 100_000, 0, write_folded),
-    ".lcov": Kind(LAST_TURN, 10_000_000, 0, write_lcov),
+    ".vcd": FileKind(2_000_000, 60_000, 45, write_dump),
+    ".callgrind": FileKind(20_000_000, 100_000, 0, write_callgrind),
+    ".folded": FileKind(20_000_000, 100_000, 0, write_folded),
+    ".lcov": FileKind(LAST_TURN, 10_000_000, 0, write_lcov),
 }
 
 
-def seconds_of(export: Export, kind: Kind) -> float:
+def seconds_of(export: Export, kind: FileKind) -> float:
     """What it takes some. The lines of a listing are counted 256 words at a time."""
     is_counted = kind.write is write_lcov
     listings = export.listings() if is_counted else []
@@ -146,7 +146,7 @@ def seconds_of(export: Export, kind: Kind) -> float:
     return len(export.turns) / kind.a_second * (areas if is_counted else 1)
 
 
-def check(export: Export, kind: Kind, is_agreed: bool) -> None:
+def check(export: Export, kind: FileKind, is_agreed: bool) -> None:
     """An error if it is too much, or if it takes long and nobody wants it."""
     first, count = export.turns.start, len(export.turns)
     if count > kind.most:

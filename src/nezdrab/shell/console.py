@@ -4,7 +4,7 @@ import time
 from collections import deque
 from typing import Iterator, Optional
 
-from ..analysis.at_work import AtWork
+from ..analysis.crew import AtWork
 from ..analysis.command import END_OF_RUN, Arguments, command
 from ..analysis.explorer import Explorer, Sitting
 from ..core.engine import LAST_TURN, Machine, is_refused

@@ -4,8 +4,7 @@ import re
 from typing import Iterator
 
 from ..analysis.command import Arguments, command
-from ..analysis.definitions import PLACE, TURN
-from ..analysis.explorer import Explorer
+from ..analysis.explorer import PLACE, TURN, Explorer
 from ..core import sessions
 from ..core.errors import ExploreError, LineRefused
 from ..core.language import FORMS, LISTS, SEARCHES, is_edit

@@ -138,9 +138,9 @@ LINES_WITH_ARGUMENTS = [
     ("disas disassemble l", f"{A}(?:,.*)?", "`list {space} {a} 16`"),
     ("display", REGISTER, "`display show` shows all registers after each move"),
     ("display", A, "`display dump {a} 1` shows the word after each move"),
-    (PRINT, PRINTED, "`dump {a} 1`"),
     (f"{EXAMINE} {PRINT}", NAMED, f"{WORD}; {ALL_REGISTERS}"),
-    (EXAMINE, "st.*|cpu.*", ALL_REGISTERS),
+    (EXAMINE, "st|state|cpu.*", ALL_REGISTERS),
+    (PRINT, PRINTED, "`dump {a} 1`"),
     (EXAMINE, TO, "`dump {a} {count}`"),
     (EXAMINE, f"-m {TO}", "`list {a} {count}`"),
     (EXAMINE, A, "`dump {a} 1`"),
@@ -181,20 +181,25 @@ class Value(str):
     """A sentence that tells a value, and leads to no line."""
 
 
+def register_of(explorer: Explorer, text: str) -> Optional[int]:
+    """The word of a register of the processor as gdb or SIMH names it, such as `$r0` and `psw`."""
+    registers, name = explorer.machine.registers(explorer.turn), text.lstrip("$").upper()
+    return {**registers.words, "SP": registers.sp}.get(SAME.get(name, name))
+
+
 def word_of(explorer: Explorer, text: str) -> Optional[int]:
-    """The word of a register as gdb or SIMH names it, such as `$r0` and `rkcs`, or None."""
-    machine, turn, name = explorer.machine, explorer.turn, text.lstrip("$").upper()
-    registers, name = machine.registers(turn), SAME.get(name, name)
-    word = {**registers.words, "SP": registers.sp}.get(name)
-    return machine.devices(turn).words.get(name) if word is None else word
+    """The same also of a register of a device, such as `rkcs`."""
+    name, found = text.lstrip("$").upper(), register_of(explorer, text)
+    devices = explorer.machine.devices(explorer.turn) if found is None else None
+    return devices.words.get(SAME.get(name, name)) if devices else found
 
 
 def number_of(explorer: Explorer, text: str) -> str:
-    """An address or a word as it is typed here, or an empty text: `0x200` is 1000, `$pc` the word
-    that PC has. A symbol must be known."""
+    """An address or a word as it is typed here, or an empty text: `0x200` is 1000, `$pc` and `pc`
+    are the word that PC has. A symbol must be known."""
     if re.fullmatch("0x[0-9a-f]+", text, re.I):
         return f"{int(text, 16):o}"
-    word = word_of(explorer, text) if text[:1] == "$" else None
+    word = register_of(explorer, text)
     if word is not None:
         return f"{word:o}"
     try:

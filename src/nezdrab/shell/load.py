@@ -5,13 +5,12 @@ from typing import Callable, Iterable, Iterator, Optional, Sequence
 from ..analysis.command import Arguments, check_even, command
 from ..analysis.explorer import Explorer
 from ..analysis.restart import make
-from ..core.aout import begins_as_aout, program_of
 from ..core.all_words import core_lines, words_in
+from ..core.aout import aout_of, begins_as_aout, names_of
 from ..core.engine import Machine
 from ..core.errors import ExploreError
 from ..core.in_words import counted
 from ..core.kinds import TEXT, begins_as_tape, check_known, content, foreign_of, is_text
-from ..core.aout import names_of
 from ..core.options import FILES, RK05_BYTES, UNIT_BYTES, Options
 from ..core.replies import Mode
 from ..core.symbol_files import Symbol
@@ -50,7 +49,7 @@ def loaded_tape(data: bytes, base: Optional[int]) -> Loaded:
 
 
 def loaded_program(data: bytes, base: Optional[int]) -> Loaded:
-    program, at = program_of(data), base or 0
+    program, at = aout_of(data), base or 0
     placed = {at + address: byte for address, byte in program.bytes.items()}
     entry = at + program.entry
     start = None if entry % 2 or entry > LAST_WORD else entry
@@ -171,7 +170,7 @@ def looks_like(name: str, data: bytes) -> str:
         return str(foreign)
     if name == "core" and begins_as_tape(data) and is_right(tape_of, data):
         return "an absolute-loader tape: `load` reads it"
-    if name == "core" and begins_as_aout(data) and is_right(program_of, data):
+    if name == "core" and begins_as_aout(data) and is_right(aout_of, data):
         return "an a.out: `load` reads it"
     return ""
 

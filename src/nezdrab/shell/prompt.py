@@ -6,7 +6,7 @@ import sys
 from pathlib import Path
 from typing import Iterable, Iterator, Optional, Sequence
 
-from ..analysis.at_work import AtWork
+from ..analysis.crew import AtWork
 from ..analysis.explorer import PROMPT, Explorer, Interpreter
 from ..analysis.fades import MOST_TURNS
 from ..analysis.quotes import RULE

@@ -3,7 +3,7 @@ import os
 import sys
 from typing import Iterable, Sequence
 
-from ..analysis.at_work import AtWork
+from ..analysis.crew import AtWork
 from ..core.interrupts import INTERRUPTS
 from ..core.visible import visible
 from .output import LINES

@@ -51,6 +51,7 @@ FIRST_LINES = (
     ("x/4xw $sp", "dump kernel 676 4"),
     ("x/2i 0x200", "dump kernel 1000 2 instructions"),
     ("p $r0", "show"),
+    ("p r1", "show"),
     ("p COUNT", "dump COUNT 1"),
     ("info display", "display"),
     ("show memory", "pages 3"),

@@ -81,5 +81,5 @@ class Commands(Case):
         )
         command, path = [sys.executable, "-S", "-B", "-c", code], str(ROOT / "src")
         ran = subprocess.run(command, env={"PYTHONPATH": path}, capture_output=True, text=True)
-        first = "shell.defining shell.display"
+        first = "shell.display"
         self.assertEqual((ran.stdout, ran.stderr), (f"{first}\nshell.console {first}\n", ""))

@@ -8,7 +8,7 @@ from typing import cast
 from unittest import mock
 
 from nezdrab.analysis import long_work
-from nezdrab.analysis.at_work import AtWork
+from nezdrab.analysis.crew import AtWork
 from nezdrab.analysis.crew import each_of
 from nezdrab.core.engine import Machine
 from nezdrab.core.errors import ExploreError

@@ -5,7 +5,7 @@ import random
 import struct
 from pathlib import Path
 
-from nezdrab.core.aout import program_of
+from nezdrab.core.aout import aout_of
 from nezdrab.core.symbol_files import symbol_file
 from nezdrab.shell.absolute_tape import tape_of
 from tests import processes
@@ -100,7 +100,7 @@ class Loading(LoadingCase):
 
     def test_an_aout_has_its_symbols_and_its_start(self) -> None:
         self.empty()
-        program = program_of(AOUT.read_bytes())
+        program = aout_of(AOUT.read_bytes())
         said = self.loads(AOUT)
         self.assertIn(f"a.out 0407, {program.parts}: 0 to 35 in core", said)
         self.assertIn("start 0 (Undo leaves it so), 5 symbols.", said)
@@ -230,7 +230,7 @@ class Alone(LoadingCase):
         self.wait_text("#text", "HELLO")
         self.assertIn("START", self.symbols())
         self.begin(AOUT)
-        self.has(program_of(AOUT.read_bytes()).bytes)
+        self.has(aout_of(AOUT.read_bytes()).bytes)
         self.assertIn("PC 000000", self.type_line("regs 0"))
         self.assertIn("start", self.symbols())
         self.browser.reload()
