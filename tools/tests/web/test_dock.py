@@ -193,6 +193,16 @@ class InSight(PageCase):
                     self.assertGreater(why[0], view[1])
                 self.assertTrue(width == 400 or 0 <= strip[0] < strip[1] <= height, strip)
 
+    def test_a_panel_that_is_brought_stands_below_the_tabs(self) -> None:
+        self.browser.size(1280, 800)
+        self.open_tab("ask")
+        self.browser.value("document.querySelector('#dock').scrollTo(0, 9999)")
+        self.browser.click("#registers .link")
+        self.wait_text("#reasons", "before turn")
+        self.wait_still()
+        tabs, why = self.boxes("[role=tablist]", "#why-panel h2")
+        self.assertGreaterEqual(why[0], tabs[1])
+
     def test_a_timeline_that_is_too_high_does_not_stay(self) -> None:
         """It would leave no room for what is below."""
         self.browser.size(400, 600)
