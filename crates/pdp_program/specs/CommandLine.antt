@@ -48,7 +48,8 @@ with_version false app = app
 
 -- with --lines, a flag, or without
 abbrev pub lines_rule : Rule
-lines_rule = record (new_rule (codes "lines")) { long = Some (codes "lines"); action = Some SetTrue }
+lines_rule =
+    record (new_rule (codes "lines")) { long = Some (codes "lines"); action = Some SetTrue }
 
 abbrev pub with_lines : Bool → App → App
 with_lines true app = with_rule app lines_rule
@@ -99,8 +100,8 @@ AnswersFaults faults (Err BadArguments) = IsRefused faults
 AnswersFaults faults (Err NoMemory) = Unit {0}
 AnswersFaults faults (Err _) = ⊥
 
--- An answer about words without a fault, whose options have these rows, of a program with this table
--- of lines: the table wins over a number that can't be read.
+-- An answer about words without a fault, whose options have these rows, of a program with this
+-- table of lines: the table wins over a number that can't be read.
 abbrev pub IsAsked : Text → List Row → Result Request Exit → Type 0
 IsAsked table rows (Ok (Show text)) =
     (is_flag_given (first_of (codes "lines") rows) ≡ true) × (string_bytes text ≡ table)

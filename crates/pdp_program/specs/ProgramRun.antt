@@ -77,7 +77,8 @@ DoesRequest language contents (Ok (SessionWith options names)) before after exit
     Starts language contents options names before after exit
 DoesRequest language contents (Err cause) before after exit = (after ≡ before) × (exit ≡ cause)
 
--- the whole run of a program of this language: what the words ask for was done, and its exit is told
+-- the whole run of a program of this language: what the words ask for was done, and its exit is
+-- told
 pub record Tells (language : Language) (program : Program) (words : List Text)
     (contents : Text → Option (List ℕ)) (before after : StreamsData) (status : ℕ)
     (line : Option Text) : Type 0 where

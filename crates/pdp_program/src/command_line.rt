@@ -2,9 +2,9 @@ ghost use Rattle.std.specs.Prelude.{◌≡◌, true, false, is_some, map, option
 ghost use Rattle.clap.specs.Words.{FailsBy, app_of, fault_of, found_of, matches_of, first_of};
 ghost use Rattle.clap.specs.Words.{rows_of, rule_of, with_rule};
 ghost use Rattle.pdp_program.specs.CommandLine.{AreNamesIn, Asks, IsAsked, program_command};
-ghost use Rattle.pdp_program.specs.CommandLine.{drive_options, is_flag_given, option_rule, table_of};
-ghost use Rattle.pdp_program.specs.CommandLine.{with_files, with_lines, with_numbers, with_options};
-ghost use Rattle.pdp_program.specs.CommandLine.{with_version};
+ghost use Rattle.pdp_program.specs.CommandLine.{drive_options, is_flag_given, option_rule};
+ghost use Rattle.pdp_program.specs.CommandLine.{table_of, with_files, with_lines, with_numbers};
+ghost use Rattle.pdp_program.specs.CommandLine.{with_options, with_version};
 
 use crate::exit::Exit;
 use crate::lines::{push_lines, table_of};

@@ -62,7 +62,8 @@ pub fn outcome<'a, const SEARCHES: bool, R: Feed, W: Drain, F: Files, S: AsStr>(
     ensures failed { result.0 ≡ 3 →
         ((R.input reader.new).has_failed ≡ true)
         ⊎ (((W.output writer.new).has_failed ≡ true) ⊎ (F.has_failed files.new ≡ true)) }
-    ensures tells { Tells (language_with SEARCHES) program.entry (map S.text words.now) (F.contents files.old)
+    ensures tells { Tells (language_with SEARCHES) program.entry
+        (map S.text words.now) (F.contents files.old)
         (streams_of (R.input reader.old) (W.output writer.old))
         (streams_of (R.input reader.new) (W.output writer.new))
         result.0 (option_map text_shown result.1) }
