@@ -6,7 +6,7 @@
         m.at(11, key="A")
         print(m.regs(40).r0, m.last(40, 0o2000))
 
-Machine is the machine, and `questions` has what it is asked. docs/PYTHON.md shows more, and
+Machine is the machine, and `questions` has what it is asked. docs/USING.md shows more, and
 docs/LANGUAGE.md has the rules of edits and questions. Each error is a NezdrabError, except a
 TypeError or a ValueError for an argument that is none."""
 import importlib

@@ -22,7 +22,7 @@ What an editor starts to debug in a recorded run, forwards and backwards: it spe
 Adapter Protocol on standard input and output; with --socket to one editor, on a socket that is
 yours alone; or with --port on that port of this computer alone, to each editor by a process of its
 own. Each user of the computer may come to the port, and do in your name what the console does.
-docs/EDITORS.md has what `launch` takes."""
+docs/USING.md has what `launch` takes."""
 
 
 def new_parser() -> Parser:
@@ -123,7 +123,7 @@ def serve(words: list[str]) -> int:
         with client_at(found.socket) as editor:
             Adapter(Wire(editor.fileno(), editor.fileno()), programs).serve()
     elif sys.stdin.isatty():
-        complain("an editor starts this, and speaks to it; docs/EDITORS.md has how")
+        complain("an editor starts this, and speaks to it; docs/USING.md has how")
         return 2
     else:
         Adapter(private_streams(), programs).serve()

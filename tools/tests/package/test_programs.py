@@ -15,7 +15,7 @@ from nezdrab.core import programs, sessions
 
 from .common import EXAMPLES, ROOT, Case, program
 
-DOCUMENT = ROOT / "docs" / "PYTHON.md"
+DOCUMENT = ROOT / "docs" / "USING.md"
 NOTEBOOK = EXAMPLES / "notebook" / "lost-update.py"
 PICTURE = EXAMPLES / "notebook" / "picture.py"
 
@@ -99,7 +99,7 @@ class Programs(Case):
         self.assertIn(f'\nversion = "{version}"\n', (ROOT / "pyproject.toml").read_text())
 
     def test_document(self) -> None:
-        """What docs/PYTHON.md shows."""
+        """What docs/USING.md shows."""
         here, wrong = os.getcwd(), io.StringIO()
         os.chdir(ROOT)
         self.addCleanup(os.chdir, here)

@@ -25,7 +25,7 @@ echo 3 passed, 0 failed
 COMMANDS = ["release", "check", "make-manual", "list-definitions"]
 COMMANDS += ["test_explore.py", "test_package.py", "test_web.py"]
 WAITS = "#!/bin/sh\necho $$ >waits\nsleep 1000\n"
-# The rows of the table of parts in GATE.md, and in each the names of parts.
+# The rows of the table of parts in MAINTAINING.md, and in each the names of parts.
 ROWS, NAMES = re.compile(r"\| part \|.*\n\|---.*\n((\|.*\n)+)"), re.compile(r"^\| ([^|]+) \|", re.M)
 
 
@@ -41,7 +41,7 @@ class Parts(Tree):
 
     def test_the_names_are_those_of_the_document(self) -> None:
         listed = self.run_in("bash", ".ci/run", "--list").stdout.splitlines()
-        table = ROWS.search((ROOT / "docs/GATE.md").read_text())
+        table = ROWS.search((ROOT / "docs/MAINTAINING.md").read_text())
         assert table is not None
         told = [name for it in NAMES.findall(table[1]) for name in it.split(", ")]
         self.assertEqual(told, listed)

@@ -85,7 +85,7 @@ class OnePage(unittest.TestCase):
         there = [f"docs/{it.name}" for it in sorted((ROOT / "docs").glob("*.md"))]
         names = [it.name for it in self.pages]
         self.assertEqual(sorted(names), sorted(["README.md", *there]))
-        self.assertEqual(names[:3], ["README.md", "docs/START.md", "docs/OLD-SYSTEMS.md"])
+        self.assertEqual(names[:3], ["README.md", "docs/USING.md", "docs/LANGUAGE.md"])
         for page in self.pages:
             stem = turned.stem_of(page.name)
             begin = "<summary>" if count_of(page.document, "##") else "<p>"
