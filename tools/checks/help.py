@@ -25,7 +25,7 @@ from tests import under_test
 ROOT = os.path.join(os.path.dirname(os.path.abspath(__file__)), "..", "..")
 # What ./pdp11 --help and ./search --help need if nothing is built and there is no release file.
 UNBUILT = ["tools/start", "tools/program", "tools/build", "tools/sources-sum", "crates.txt"]
-# Where its help is stored once more, behind which a session's options are wrong.
+# The help of pdp11 once more: it wins over a number that can't be read.
 WITH_A_BAD_NUMBER = "rows/program/help-and-a-bad-number.expected"
 # By program: where its help is stored, and the heads of its lines, each with the table that it
 # shows.
@@ -89,13 +89,25 @@ def unbuilt_help(name: str, stored: str) -> bytes:
 
 
 def printed(program: str, option: str) -> bytes:
-    return subprocess.run([program, option], stdout=subprocess.PIPE, check=True).stdout
+    """What a program prints with an option, which it must take."""
+    ended = subprocess.run([program, option], stdout=subprocess.PIPE)
+    if ended.returncode:
+        sys.exit(f"help: {program} {option} ended with status {ended.returncode}")
+    return ended.stdout
 
 
 def wrong_rows(table: str) -> Iterator[Optional[str]]:
-    """What is wrong with each row of the table, compared with the one that search prints."""
+    """What is wrong with each row of the table: in itself, or compared with what is held."""
     for row, held in itertools.zip_longest(table.splitlines(), ROWS.splitlines()):
-        yield None if row == held else f"search --lines has '{row}', line_table.py has '{held}'"
+        line = sessions.Line(*(row or held).split("\t"))
+        if row != held:
+            yield f"search --lines has '{row}', line_table.py has '{held}'"
+        elif sum(map(str.isupper, line.form.split())) != len(line.arguments.split()):
+            yield f"{line.form}: it hasn't as many arguments as kinds, '{line.arguments}'"
+        elif (line.kind == sessions.QUESTION) != (line.turns != "none"):
+            yield f"{line.form}: a {line.kind}, and it asks of the turns '{line.turns}'"
+        else:
+            yield None
 
 
 def make() -> int:
