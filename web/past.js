@@ -1,6 +1,7 @@
 // The past as the program tells it: what the edits that it took have made of it.
 
 import { DELAYS } from "./hardware.js";
+import { LINES } from "./lines.js";
 import { eventsOf, keyName, patchesOf, setupOf } from "./replies.js";
 
 /**
@@ -10,8 +11,7 @@ import { eventsOf, keyName, patchesOf, setupOf } from "./replies.js";
  */
 
 const EDITS_OF_SCRIPT = new Set(["at", "alter", "drop"]);
-const EDITS = new Set(
-  ["core", "uncore", "disk", "tape", "delay", "version", ...EDITS_OF_SCRIPT]);
+const EDITS = new Set(LINES.filter(it => it.kind === "edit").map(it => it.form.split(" ")[0]));
 /**
  * The lines that tell the past, and what each reply has of it.
  * @type {Object<string, (reply: string) => Partial<Past>>}

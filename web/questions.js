@@ -1,21 +1,30 @@
 // What a question needs of the machine: the turns that it is about, and how a search of many turns
 // is asked part by part.
 
+import { LINES } from "./lines.js";
 import { wordOfLine, wordsOfLine } from "./past.js";
 import { LAST_TURN, isRefused, turnOf } from "./replies.js";
 
-const OF_A_TURN = new Set([
-  "regs", "mem", "dsk", "text", "punched", "last", "trail", "devices", "pages", "translate",
-  "virtual", "find", "finddsk", "fades", "accesses",
-]);
+/** The first words of some lines.
+    @param {(line: import("./lines.js").Line) => boolean} has */
+const wordsOf = has => new Set(LINES.filter(has).map(it => wordOfLine(it.form)));
+
+const OF_A_TURN = wordsOf(it => it.turns.endsWith(" N"));
+const OF_TURNS = wordsOf(it => it.turns === "N to M");
 // Those that are replied to with a line for each turn that is found.
-const LISTS = new Set(["writes", "reads", "transfers"]);
-const OF_TURNS = new Set(["first", "latest", "counts", "change", ...LISTS]);
+const LISTS = wordsOf(it => it.turns === "N to M" && it.reply.endsWith(" C"));
 const MOST_FOUND = 256;
 const LONGEST_LINE = 200;
 // In the first turns of a run a question is answered at once. A trail has at most so many turns. A
 // search of no more turns is asked as other questions are.
 const EARLY = 64, SHORT = 64;
+
+/** Whether a reply lists as many turns as it may, so that more may be left.
+    @param {string} reply */
+export function isFullList(reply) {
+  const [word, count] = reply.split(/[ \n]/, 2);
+  return LISTS.has(word) && Number(count) === MOST_FOUND;
+}
 
 /** A turn as the program takes it: it refuses any other at once.
     @param {string} word */

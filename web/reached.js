@@ -2,7 +2,7 @@
 // now, and what it printed. Of a machine that is new it keeps nothing.
 
 import { wordsOfLine } from "./past.js";
-import { turnsAsked } from "./questions.js";
+import { isFullList, turnsAsked } from "./questions.js";
 
 // Checkpoints are so many turns apart at first. Twice as many if there would be too many of them.
 const [FIRST_STRIDE, MOST_CHECKPOINTS] = [10_000, 256];
@@ -28,7 +28,7 @@ export class Reached {
     const [, printed] = /^text ([1-9]\d*):/.exec(reply) ?? [], [, , , from = 0] = wordsOfLine(line);
     if (printed) this.printed = Math.max(this.printed, Number(from) + Number(printed));
     // a search may have ended before its last turn
-    this.at = /^(first|change) \d|^(writes|reads|transfers) 256/.test(reply) ? begin : end;
+    this.at = /^(first|change) \d/.test(reply) || isFullList(reply) ? begin : end;
     this.known = Math.max(this.known, this.at);
     while (this.known >= MOST_CHECKPOINTS * this.stride) this.stride *= 2;
   }

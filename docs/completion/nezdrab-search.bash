@@ -13,6 +13,7 @@ _nezdrab_search() {
 --units
 --start
 --stride
+--lines
 -h
 --help
 -V

@@ -13,5 +13,6 @@ complete -c nezdrab-search -l tape -r -F -d 'Paper tape, a file of plain bytes [
 complete -c nezdrab-search -l units -x -d 'Units of core of 4096 words, 1 to 31 [default: 31]'
 complete -c nezdrab-search -l start -x -d 'Start address, octal and even [default: 1000]'
 complete -c nezdrab-search -l stride -x -d 'Turns between kept states, 1 to 2000000000 [default: 10000]'
+complete -c nezdrab-search -l lines -d 'Print a table of the lines below, for programs'
 complete -c nezdrab-search -s h -l help -d 'Print help'
 complete -c nezdrab-search -s V -l version -d 'Print version'

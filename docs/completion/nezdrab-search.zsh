@@ -14,5 +14,6 @@ _arguments \
   '--units=[Units of core of 4096 words, 1 to 31 \[default\: 31\]]:N: ' \
   '--start=[Start address, octal and even \[default\: 1000\]]:A: ' \
   '--stride=[Turns between kept states, 1 to 2000000000 \[default\: 10000\]]:N: ' \
+  '--lines[Print a table of the lines below, for programs]' \
   '(-h --help)'{-h,--help}'[Print help]' \
   '(-V --version)'{-V,--version}'[Print version]'

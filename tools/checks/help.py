@@ -1,8 +1,11 @@
-"""help: compares the tables of the languages in src/nezdrab/core/sessions.py with the lines that
-the --help of pdp11 and of search show: the same forms in the same order with the same texts, and of
-a session's lines a question exactly if its text says 'before turn N'. It also compares what ./pdp11
---help and ./search --help show while there is no program. The last line is 'N passed, M
-failed'."""
+"""help [--make]: compares the table of lines in src/nezdrab/core/line_table.py with what `search
+--lines` prints, row by row, and with the lines that the --help of pdp11 and of search show: the
+same forms in the same order with the same texts, and of a session's lines a question exactly if its
+text says 'before turn N'. It also compares what ./pdp11 --help and ./search --help show while there
+is no program. The last line is 'N passed, M failed'.
+
+With --make it makes that file, and the stored help in rows/, of what the two programs print: after
+a change of a line, before tools/web --tables and tools/make-manual."""
 import itertools
 import os
 import re
@@ -10,15 +13,20 @@ import shutil
 import subprocess
 import sys
 import tempfile
+from pathlib import Path
 from typing import Iterator, Optional
 
+import line_table
 import sessions
+from nezdrab.core.line_table import ROWS
 from tests import under_test
 
 
 ROOT = os.path.join(os.path.dirname(os.path.abspath(__file__)), "..", "..")
 # What ./pdp11 --help and ./search --help need if nothing is built and there is no release file.
 UNBUILT = ["tools/start", "tools/program", "tools/build", "tools/sources-sum", "crates.txt"]
+# The help of pdp11 once more: it wins over a number that can't be read.
+WITH_A_BAD_NUMBER = "rows/program/help-and-a-bad-number.expected"
 # By program: where its help is stored, and the heads of its lines, each with the table that it
 # shows.
 OF_SESSIONS = ("Lines of a session", sessions.LANGUAGE)
@@ -57,12 +65,12 @@ def differences(
         if row is None:
             yield f"{line.form}: --help doesn't show it"
         elif line is None:
-            yield f"{row[0]}: the table of src/nezdrab/core/sessions.py lacks it"
+            yield f"{row[0]}: the table lacks it"
         elif row[0] != line.form:
             yield f"--help shows '{row[0]}' in the place of the table's '{line.form}'"
         elif row[1] != line.summary:
             yield f"{line.form}: --help says '{row[1]}', the table '{line.summary}'"
-        elif line.kind == sessions.SEARCH:
+        elif line.language != "session":
             yield None
         elif (line.kind == sessions.QUESTION) != (kind_shown(row[1]) == "question"):
             yield f"{line.form}: the table has {line.kind}, --help has {kind_shown(row[1])}"
@@ -80,10 +88,43 @@ def unbuilt_help(name: str, stored: str) -> bytes:
         return subprocess.run(command, stdin=subprocess.DEVNULL, capture_output=True).stdout
 
 
+def printed(program: str, option: str) -> bytes:
+    """What a program prints with an option, which it must take."""
+    ended = subprocess.run([program, option], stdout=subprocess.PIPE)
+    if ended.returncode:
+        sys.exit(f"help: {program} {option} ended with status {ended.returncode}")
+    return ended.stdout
+
+
+def wrong_rows(table: str) -> Iterator[Optional[str]]:
+    """What is wrong with each row of the table: in itself, or compared with what is held."""
+    for row, held in itertools.zip_longest(table.splitlines(), ROWS.splitlines()):
+        line = sessions.Line(*(row or held).split("\t"))
+        if row != held:
+            yield f"search --lines has '{row}', line_table.py has '{held}'"
+        elif sum(map(str.isupper, line.form.split())) != len(line.arguments.split()):
+            yield f"{line.form}: it hasn't as many arguments as kinds, '{line.arguments}'"
+        elif (line.kind == sessions.QUESTION) != (line.turns != "none"):
+            yield f"{line.form}: a {line.kind}, and it asks of the turns '{line.turns}'"
+        else:
+            yield None
+
+
+def make() -> int:
+    """Makes what is stored of the programs' lines."""
+    programs = {name: under_test.by_its_name(name) for name in PROGRAMS}
+    table = printed(programs["search"], "--lines").decode("ascii")
+    line_table.MODULE.write_text(line_table.as_python(table), encoding="ascii")
+    for name, (stored, _) in PROGRAMS.items():
+        Path(ROOT, stored).write_bytes(printed(programs[name], "--help"))
+    Path(ROOT, WITH_A_BAD_NUMBER).write_bytes(printed(programs["pdp11"], "--help"))
+    return 0
+
+
 def failures(name: str, program: str) -> Iterator[Optional[str]]:
     """What is wrong with the help of a program, for each line of its language, or None."""
     stored, heads = PROGRAMS[name]
-    text = subprocess.run([program, "--help"], stdout=subprocess.PIPE).stdout
+    text = printed(program, "--help")
     for head, table in heads:
         for wrong in differences(lines_shown(text.decode(), head), table):
             yield wrong and f"{name}: {wrong}"
@@ -94,8 +135,12 @@ def failures(name: str, program: str) -> Iterator[Optional[str]]:
 
 
 def main() -> int:
-    sessions.parser_of(__doc__).parse_args()
+    parser = sessions.parser_of(__doc__)
+    parser.add_argument("--make", action="store_true", help="make the table and the stored help")
+    if parser.parse_args().make:
+        return make()
     found = [it for name in PROGRAMS for it in failures(name, under_test.by_its_name(name))]
+    found += wrong_rows(printed(under_test.by_its_name("search"), "--lines").decode("ascii"))
     wrong = [it for it in found if it is not None]
     print("".join(f"{it}\n" for it in wrong), end="")
     print(f"{len(found) - len(wrong)} passed, {len(wrong)} failed")

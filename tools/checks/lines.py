@@ -39,7 +39,7 @@ SYSTEMS = """
     rows/searches/completions-of-the-disk rows/searches/writes-to-a-word
     tables/kept-states/edits-of-many-devices tables/kept-states/drives-after-edits-that-fade
 """.split()
-WITH_SPAN = (b"first", b"latest", b"counts", b"writes", b"reads", b"transfers", b"change")
+WITH_SPAN = {sessions.command_of(it) for it in sessions.SEARCHES if it.turns == sessions.SPAN}
 UNITS = 31
 PATCH = re.compile("core +([0-7]{1,10}) ")
 

@@ -11,7 +11,7 @@
 //! - The worked rows, tables and examples, all on the built program.
 #![tactic(auto)]
 
-use pdp_program::{Program, run_on_host};
+use pdp_program::{NO_LINES, Program, SESSION, run_on_host};
 use std::process::ExitCode;
 
 /// What it is, the release as the file VERSION has it, and where a session comes from.
@@ -23,7 +23,8 @@ const PROGRAM: Program<'static> = Program {
     name: "pdp11",
     about: ABOUT,
     version: None,
-    more_lines: "",
+    lines: SESSION,
+    more_lines: NO_LINES,
 };
 
 fn main(rt: HostRuntime) -> ExitCode {

@@ -1,7 +1,7 @@
 -- What the program has done with its streams when it ends [P].
-use Rattle.std.specs.Prelude.{◌≡◌, ℕ, ◌++◌, Bool, List, [], Option, Result, Ok, Err, string_bytes}
+use Rattle.std.specs.Prelude.{◌≡◌, ℕ, ◌++◌, List, [], Option, Result, Ok, Err, string_bytes}
 use Rattle.std.specs.Io.KnownBytes.{Appends}
-use Rattle.clap.specs.Words.{Text, fault_of}
+use Rattle.clap.specs.Words.{Text}
 use Rattle.pdp_script.specs.declared.faults.Fault.{Fault}
 use Rattle.pdp_io_page.specs.Handbook.Delays.{standard_delays}
 use Rattle.pdp_replay.specs.Past.{starting_past}
@@ -10,13 +10,14 @@ use Rattle.pdp_session.specs.Language.{Language}
 use Rattle.pdp_session.specs.Session.{Session}
 use Rattle.pdp_session.specs.Streams.{DrainData, StreamsData}
 use Rattle.pdp_program.specs.Exit.{exit_status, line_of, exit_of}
-use Rattle.pdp_program.specs.CommandLine.{Asks, command_line}
+use Rattle.pdp_program.specs.CommandLine.{Asks}
 use Rattle.pdp_program.specs.Media.{Contents, AreMediaOf}
 use Rattle.pdp_program.specs.declared.command_line.FileNames.{FileNames}
 use Rattle.pdp_program.specs.declared.exit.Exit.{Exit}
 use Rattle.pdp_program.specs.declared.exit.Exit.TheVariants.{Done, InputOrOutput}
 use Rattle.pdp_program.specs.declared.options.Options.{Options}
 use Rattle.pdp_program.specs.declared.command_line.Request.{Request}
+use Rattle.pdp_program.specs.declared.program.Program.{Program}
 use Rattle.pdp_program.specs.declared.command_line.Request.TheVariants.{Show}
 use Rattle.pdp_program.specs.declared.command_line.Request.TheVariants.{Session as SessionWith}
 
@@ -76,15 +77,14 @@ DoesRequest language contents (Ok (SessionWith options names)) before after exit
     Starts language contents options names before after exit
 DoesRequest language contents (Err cause) before after exit = (after ≡ before) × (exit ≡ cause)
 
--- the whole run of a program of this language and name, with --version or without: what the words
--- ask for was done, and its exit is told
-pub record Tells (language : Language) (has_version : Bool) (name : Text) (words : List Text)
+-- the whole run of a program of this language: what the words ask for was done, and its exit is
+-- told
+pub record Tells (language : Language) (program : Program) (words : List Text)
     (contents : Text → Option (List ℕ)) (before after : StreamsData) (status : ℕ)
     (line : Option Text) : Type 0 where
   pub asked : Result Request Exit
   pub exit : Exit
-  pub asks : Asks (command_line has_version name) (fault_of (command_line has_version name) words)
-      words asked
+  pub asks : Asks program words asked
   pub does : DoesRequest language contents asked before after exit
   pub told_status : status ≡ exit_status exit
-  pub told_line : line ≡ line_of name exit
+  pub told_line : line ≡ line_of program.name.now exit

@@ -1,11 +1,13 @@
-ghost use Rattle.std.specs.Prelude.{◌≡◌, false, is_some, map, option_map, string_bytes, IfOk};
+ghost use Rattle.std.specs.Prelude.{◌≡◌, true, false, is_some, map, option_map, string_bytes, IfOk};
 ghost use Rattle.clap.specs.Words.{FailsBy, app_of, fault_of, found_of, matches_of, first_of};
 ghost use Rattle.clap.specs.Words.{rows_of, rule_of, with_rule};
-ghost use Rattle.pdp_program.specs.CommandLine.{AreNamesIn, Asks, command_line, drive_options};
-ghost use Rattle.pdp_program.specs.CommandLine.{option_rule, with_files, with_numbers};
+ghost use Rattle.pdp_program.specs.CommandLine.{AreNamesIn, Asks, IsAsked, program_command};
+ghost use Rattle.pdp_program.specs.CommandLine.{drive_options, is_flag_given, option_rule};
+ghost use Rattle.pdp_program.specs.CommandLine.{table_of, with_files, with_lines, with_numbers};
 ghost use Rattle.pdp_program.specs.CommandLine.{with_options, with_version};
 
 use crate::exit::Exit;
+use crate::lines::{push_lines, table_of};
 use crate::options::{Options, read_options};
 use crate::program::Program;
 use clap::error::ErrorKind;
@@ -13,42 +15,10 @@ use clap::{Arg, ArgAction, ArgMatches, Command, Error};
 use std::alloc::{AllocError, Global};
 use std::convert::AsStr;
 
-/// The lines of the session language, a few words on each.
-const LINES: &str = "\
-An image file holds words of two bytes each, the low byte first.
-
-Lines of a session (A, D, I, W and B are octal; N, T, C and E are decimal):
-  core A W         the core word at address A is W as of power-up
-  uncore A         take that back
-  disk I W         word I of the drive is W as of power-up
-  patches          list these words
-  tape B B ..      these bytes are the tape in the reader as of power-up
-  delay L N        an operation of L takes N turns, the clock ticks each N turns
-                   (0: by events alone); L is printer, reader, punch, disk or
-                   clock
-  at T EVENT       put an event at turn T
-  alter E T EVENT  give event E this turn and this event
-  drop E           take event E out
-  regs N           the registers before turn N
-  mem N A C        C words of core from address A on, before turn N
-  dsk N I C        C words of the drive from word I on, before turn N
-  text N           what was printed on the console before turn N
-  punched N        what was punched before turn N
-  last N A         who last wrote the core word at A before turn N, and when
-  devices N        the registers of the devices before turn N
-  pages N          the registers of memory management before turn N
-  trail N C        the last C turns before turn N: PC and act of each
-  version 2        eight drives from here on, and these lines in place of those
-                   of the one drive
-  disk D I W       word I of drive D is W as of power-up
-  dsk N D I C      C words of drive D from word I on, before turn N
-
-EVENT is key B, tick, printer, reader, punch, disk, switches W or continue.";
-
 /// What the words of the command line ask for.
 #[derive(Drop)]
 pub enum Request {
-    /// This text, of help or of the release.
+    /// This text, of help, of the release or of the table of lines.
     Show(String),
     /// A session with these options, and with the images and the tape that the files of these names
     /// hold.
@@ -68,40 +38,60 @@ pub struct FileNames {
 
 /// What these words ask a program for, its name first. `BadArguments`: an option is unknown, is
 /// given twice or without a value, there is a word that belongs to none, or a number can't be read.
-/// Help and the release win over the last. `NoMemory` as soon as it is out of memory.
+/// Help, the release and the table of lines win over the last. `NoMemory` as soon as it is out of
+/// memory.
 pub fn read_words<S: AsStr>(
     alloc: Global,
     program: Program<'_>,
     words: &[S],
 ) -> Result<Request, Exit>
-    ensures { Asks (command_line (is_some program.entry.version) program.entry.name.now)
-        (fault_of (command_line (is_some program.entry.version) program.entry.name.now)
-        (map S.text words.now))
-        (map S.text words.now) result }
+    ensures { Asks program.entry (map S.text words.now) result }
 {
     match matches_of(alloc, program, words) {
-        Ok(matches) => {
-            let units = matches.get_str("units");
-            let start = matches.get_str("start");
-            let stride = matches.get_str("stride");
-            match read_options(units, start, stride) {
-                Some(options) => {
-                    let names = names_of(alloc, &matches)?;
-                    Ok(Request::Session { options, names })
-                }
-                None => Err(Exit::BadArguments),
-            }
-        }
+        Ok(matches) => asked_by(alloc, program, &matches),
         Err(error) => match error.kind() {
-            ErrorKind::DisplayHelp => {
-                let mut text = error.to_string(alloc)?;
-                text.push_str(program.more_lines)?;
-                Ok(Request::Show(text))
-            }
+            ErrorKind::DisplayHelp => Ok(Request::Show(help_of(alloc, program, &error)?)),
             ErrorKind::DisplayVersion => Ok(Request::Show(error.to_string(alloc)?)),
             ErrorKind::OutOfMemory => Err(Exit::NoMemory),
             _ => Err(Exit::BadArguments),
         },
+    }
+}
+
+/// The options of clap's text, and then the lines.
+fn help_of(alloc: Global, program: Program<'_>, options: &Error) -> Result<String, AllocError> {
+    let mut text = options.to_string(alloc)?;
+    push_lines(&mut text, program.lines)?;
+    push_lines(&mut text, program.more_lines)?;
+    Ok(text)
+}
+
+/// What options ask for in which clap finds no fault.
+fn asked_by(alloc: Global, program: Program<'_>, matches: &ArgMatches<'_>) -> Result<Request, Exit>
+    ensures { IsAsked (table_of program.entry) (rows_of (found_of matches.now)) result }
+{
+    if is_flag_given(matches.get_str("lines")) {
+        return Ok(Request::Show(table_of(alloc, program)?))
+    }
+    let units = matches.get_str("units");
+    let start = matches.get_str("start");
+    let stride = matches.get_str("stride");
+    match read_options(units, start, stride) {
+        Some(options) => {
+            let names = names_of(alloc, matches)?;
+            Ok(Request::Session { options, names })
+        }
+        None => Err(Exit::BadArguments),
+    }
+}
+
+/// Whether the value of a flag says that it is given.
+fn is_flag_given(value: Option<&str>) -> bool
+    ensures { result ≡ is_flag_given (option_map (λ text. text.now) value.entry) }
+{
+    match value {
+        Some(text) => text == "true",
+        None => false,
     }
 }
 
@@ -158,23 +148,36 @@ fn matches_of<'a, S: AsStr>(
     words: &'a [S],
 ) -> Result<ArgMatches<'a>, Error>
     ensures faults { FailsBy
-        (fault_of (command_line (is_some program.entry.version) program.entry.name.now) (map S.text words.entry.now)) result }
+        (fault_of (program_command program.entry) (map S.text words.entry.now)) result }
     ensures rows { IfOk result (λ matches. rows_of (found_of matches)
-        ≡ matches_of (command_line (is_some program.entry.version) program.entry.name.now) (map S.text words.entry.now)) }
+        ≡ matches_of (program_command program.entry) (map S.text words.entry.now)) }
 {
     let command = command(alloc, program)?;
     command.try_get_matches_from(words)
 }
 
 fn command<'a>(alloc: Global, program: Program<'a>) -> Result<Command<'a>, AllocError>
-    ensures { IfOk result (λ command. app_of command
-        ≡ command_line (is_some program.entry.version) program.entry.name.now) }
+    ensures { IfOk result (λ command. app_of command ≡ program_command program.entry) }
 {
-    let command = Command::new(alloc, program.name)
-        .about(program.about)
-        .after_help(LINES);
+    let command = Command::new(alloc, program.name).about(program.about);
     let command = with_version(command, program.version);
-    with_numbers(alloc, with_files(alloc, command)?)
+    let command = with_numbers(alloc, with_files(alloc, command)?)?;
+    if program.version.is_some() {
+        with_lines(alloc, command)
+    } else {
+        Ok(command)
+    }
+}
+
+/// With an option that prints the table of lines.
+fn with_lines<'a>(alloc: Global, command: Command<'a>) -> Result<Command<'a>, AllocError>
+    ensures { IfOk result (λ more. app_of more ≡ with_lines true (app_of command.entry)) }
+{
+    let lines = Arg::new(alloc, "lines")
+        .long("lines")
+        .help("Print a table of the lines below, for programs")
+        .action(ArgAction::SetTrue);
+    command.arg(lines)
 }
 
 /// With an option that prints this release, if there is one.

@@ -8,6 +8,7 @@
 //! - Exit status and line on standard error are a pair of the table, and that of the run's result
 //!   if the run was reached. The run starts with the words of the images' files and the bytes of
 //!   the tape's, if the files are known ([`outcome`]).
+//! - `--lines` prints the rows of the program's lines, byte for byte ([`outcome`]).
 //! - The exit status of the process is one of the table ([`run_on_host`]).
 //!
 //! # What is only tested
@@ -22,6 +23,7 @@ mod command_line;
 mod exit;
 mod files;
 mod host;
+mod lines;
 mod media;
 mod options;
 mod program;
@@ -29,4 +31,5 @@ mod program;
 pub use exit::{ErrorLine, Exit};
 pub use files::{FileFailure, Files};
 pub use host::run_on_host;
+pub use lines::{LineTable, NO_LINES, SESSION};
 pub use program::{Program, outcome};

@@ -1,4 +1,4 @@
-ghost use Rattle.std.specs.Prelude.{◌≡◌, ◌≢◌, ◌⊎◌, true, false, is_some, map, option_map};
+ghost use Rattle.std.specs.Prelude.{◌≡◌, ◌≢◌, ◌⊎◌, true, false, map, option_map};
 ghost use Rattle.pdp_program.specs.Exit.{IsListed, text_shown};
 ghost use Rattle.pdp_program.specs.Media.{contents_of};
 ghost use Rattle.pdp_program.specs.ProgramRun.{RunsSession, Shows, Starts, Tells, setup_with};
@@ -9,6 +9,7 @@ ghost use Rattle.pdp_session.specs.Streams.{streams_of};
 use crate::command_line::{FileNames, Request, read_words};
 use crate::exit::{ErrorLine, Exit};
 use crate::files::Files;
+use crate::lines::LineTable;
 use crate::media::{Media, read_media};
 use crate::options::Options;
 use pdp_session::{Drain, Feed, Setup, run};
@@ -22,11 +23,13 @@ pub struct Program<'a> {
     pub name: &'a str,
     /// What it is, at the head of its help.
     pub about: &'a str,
-    /// The release that `--version` prints; `None` if the program has no such option.
+    /// The release that `--version` prints; `None` if the program has no such option, and no
+    /// `--lines`.
     pub version: Option<&'a str>,
-    /// What its help shows behind the lines of a session, as the lines that only it has. Empty, or
-    /// whole lines, the first of them empty.
-    pub more_lines: &'a str,
+    /// The lines of a session.
+    pub lines: LineTable<'a>,
+    /// The lines that only it has.
+    pub more_lines: LineTable<'a>,
 }
 
 /// Runs a program on these words (its name first), files and streams. Its lines are those of the
@@ -36,7 +39,7 @@ pub struct Program<'a> {
 ///
 /// | status | line | when |
 /// |---|---|---|
-/// | 0 | | end of input, or help or the release was asked for |
+/// | 0 | | end of input, or help, the release or the table of lines was asked for |
 /// | 2 | `bad arguments` | the words are wrong, or a number can't be read |
 /// | 3 | `input or output` | a file can't be read, or the reader or the writer failed |
 /// | 4 | `refused 1 NoMemory` | no memory before the first line |
@@ -59,7 +62,7 @@ pub fn outcome<'a, const SEARCHES: bool, R: Feed, W: Drain, F: Files, S: AsStr>(
     ensures failed { result.0 ≡ 3 →
         ((R.input reader.new).has_failed ≡ true)
         ⊎ (((W.output writer.new).has_failed ≡ true) ⊎ (F.has_failed files.new ≡ true)) }
-    ensures tells { Tells (language_with SEARCHES) (is_some program.entry.version) program.entry.name.now
+    ensures tells { Tells (language_with SEARCHES) program.entry
         (map S.text words.now) (F.contents files.old)
         (streams_of (R.input reader.old) (W.output writer.old))
         (streams_of (R.input reader.new) (W.output writer.new))

@@ -10,7 +10,7 @@ from .fades import fade_of
 
 HEADING = "# sweep --fades "
 AGAIN = re.compile(r"(.*; the old run again from turn) ([0-9]{1,10}) on", re.DOTALL)
-OF_TURNS = {sessions.command_of(it).decode() for it in sessions.SEARCHES if " N M " in it.form}
+OF_TURNS = {it.form.split()[0] for it in sessions.TABLE if it.turns == sessions.SPAN}
 
 
 def end_of(question: str) -> int:

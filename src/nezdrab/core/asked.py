@@ -8,9 +8,8 @@ from .language import is_decimal
 from .values import dataclass
 
 # Not `when F`. `fades` leaves the machine wherever it was found out.
-SEARCHES = [it for it in sessions.SEARCHES if " N" in it.form and "EDIT" not in it.form]
-QUESTIONS = sessions.QUESTIONS | {sessions.command_of(it) for it in SEARCHES}
-NAMES = frozenset(it.decode() for it in QUESTIONS)
+ASKING = (sessions.STATE, sessions.SPAN, sessions.LAST)
+NAMES = frozenset(it.form.split()[0] for it in sessions.TABLE if it.turns in ASKING)
 MOST_DIGITS = 10
 LEAST_SPARSE_STRIDE, SPARSE_STATES = 50_000, 8
 LEAST_STRIDE, KEPT_STATES = 64, 250  # the program keeps 256, and then doubles the stride

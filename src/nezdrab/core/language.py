@@ -21,7 +21,7 @@ def comma_fault(words: str) -> str:
 
 @dataclass(frozen=True)
 class Number:
-    """A number of the language, by its letter."""
+    """A number of the language."""
 
     title: str
     digits: frozenset[str]
@@ -41,16 +41,17 @@ class Number:
         return None
 
 
+# By the kind of an argument in the table of lines.
 NUMBERS = {
-    "A": Number("an address of core", OCTAL),
-    "I": Number("the number of a word of a drive", OCTAL),
-    "D": Number("a drive", OCTAL),
-    "W": Number("a word", OCTAL, 0o177777),
-    "B": Number("a byte", OCTAL, 0o377),
-    "N": Number("a turn, or a count of turns", DECIMAL),
-    "T": Number("a turn", DECIMAL),
-    "C": Number("a count", DECIMAL),
-    "E": Number("the number of an event", DECIMAL),
+    "address": Number("an address of core", OCTAL),
+    "place": Number("the number of a word of a drive", OCTAL),
+    "drive": Number("a drive", OCTAL),
+    "word": Number("a word", OCTAL, 0o177777),
+    "byte": Number("a byte", OCTAL, 0o377),
+    "turn": Number("a turn", DECIMAL),
+    "turns": Number("a count of turns", DECIMAL),
+    "count": Number("a count", DECIMAL),
+    "number": Number("the number of an event", DECIMAL),
 }
 
 
@@ -65,17 +66,17 @@ def rest_of(line: sessions.Line) -> str:
 
 # The lines of the language by their first words; those of version 2 come last and stand apart.
 SINCE_VERSION_2 = [it.form for it in sessions.LANGUAGE].index("version 2")
-FORMS = {word_of(it): rest_of(it) for it in sessions.LANGUAGE[: SINCE_VERSION_2 + 1]}
-FORMS_OF_EIGHT_DRIVES = {
-    word_of(it): rest_of(it) for it in sessions.LANGUAGE[SINCE_VERSION_2 + 1 :]
-}
-SUMMARIES = {word_of(it): it.summary for it in sessions.LANGUAGE[: SINCE_VERSION_2 + 1]}
+LINES = {word_of(it): it for it in sessions.LANGUAGE[: SINCE_VERSION_2 + 1]}
+LINES_OF_EIGHT_DRIVES = {word_of(it): it for it in sessions.LANGUAGE[SINCE_VERSION_2 + 1 :]}
+FORMS = {word: rest_of(it) for word, it in LINES.items()}
+SUMMARIES = {word: it.summary for word, it in LINES.items()}
 # Lines of searches without a turn, such as `setup`.
 LISTS = {it.form: it.summary for it in sessions.SEARCHES if " " not in it.form}
 SEARCHES = frozenset(word_of(it) for it in sessions.SEARCHES) - LISTS.keys()
 EDITS = frozenset(it.decode() for it in sessions.EDITS)
 FADING = (*PATCHES, "at", "alter", "drop")  # the edits that the line `fades` takes
 EVENTS, MEANINGS = sessions.EVENTS, sessions.REFUSALS
+KINDS_OF_EVENTS = {"B": "byte", "W": "word"}
 
 
 def is_edit(line: str) -> bool:
@@ -86,10 +87,21 @@ def is_decimal(word: str) -> bool:
     return word != "" and DECIMAL.issuperset(word)
 
 
+def line_of(word: str, version: int) -> sessions.Line:
+    """The line of the session language that begins with this word."""
+    own: dict[str, sessions.Line] = LINES_OF_EIGHT_DRIVES if version == 2 else {}
+    return own.get(word, LINES[word])
+
+
 def form_of(word: str, version: int) -> str:
     """The form of a line that begins with this word, such as `core A W`."""
-    own: dict[str, str] = FORMS_OF_EIGHT_DRIVES if version == 2 else {}
-    return f"{word} {own.get(word, FORMS[word])}".rstrip()
+    return f"{word} {rest_of(line_of(word, version))}".rstrip()
+
+
+def kinds_of(line: sessions.Line) -> list[str]:
+    """The words of a line's form, with the kind of each argument in its place, in capitals."""
+    kinds = iter(line.arguments.upper().split())
+    return [next(kinds) if it.isupper() else it for it in line.form.split()]
 
 
 def fault_of_event(words: list[str]) -> Optional[str]:
@@ -98,34 +110,34 @@ def fault_of_event(words: list[str]) -> Optional[str]:
     if words[0] not in EVENTS:
         known = ", ".join(f"{name} {EVENTS[name]}".rstrip() for name in EVENTS)
         return f"there is no event '{words[0]}'; events are {known}"
-    return fault_of_words(EVENTS[words[0]].split(), words[1:])
+    letters = EVENTS[words[0]].split()
+    return fault_of_words(letters, [KINDS_OF_EVENTS[it] for it in letters], words[1:])
 
 
-def fault_of_words(letters: list[str], words: list[str]) -> Optional[str]:
-    """What is wrong with the words in the places of these letters."""
-    for at, letter in enumerate(letters):
-        if letter == "event":
+def fault_of_words(letters: list[str], kinds: list[str], words: list[str]) -> Optional[str]:
+    """What is wrong with the words in the places of these letters, which are of these kinds."""
+    for at, (letter, kind) in enumerate(zip(letters, kinds)):
+        if kind == "event":
             return fault_of_event(words[at:])
-        if letter == "..":
-            letter, words = "B", words[:at] + words[at:]
-            found = (NUMBERS["B"].fault("B", it) for it in words[at:])
+        if letters[-1] == "..":
+            found = (NUMBERS[kind].fault(letter, it) for it in words)
             return next((it for it in found if it), None)
         if at >= len(words):
-            return None if letters[at:] == ["B", ".."] else f"{letter} is missing"
-        wrong = fault_of_word(letter, words[at])
+            return f"{letter} is missing"
+        wrong = fault_of_word(letter, kind, words[at])
         if wrong:
             return wrong
     extra = words[len(letters) :]
     return f"'{extra[0]}' is too much" if extra else None
 
 
-def fault_of_word(letter: str, word: str) -> Optional[str]:
-    if letter == "L":
+def fault_of_word(letter: str, kind: str, word: str) -> Optional[str]:
+    if kind == "device":
         known = ", ".join(sorted(LINE_DEVICES))
         return None if word in LINE_DEVICES else f"there is no device '{word}'; L is {known}"
-    if letter == "2":
+    if kind == "2":
         return None if word == "2" else f"'{word}' is no version that a line leads to"
-    return NUMBERS[letter].fault(letter, word)
+    return NUMBERS[kind].fault(letter, word)
 
 
 def forms_of_searches(word: str) -> list[str]:
@@ -150,9 +162,10 @@ def explanation(line: str, reply: str, version: int) -> str:
         return f"the forms are: {'; '.join(forms_of_searches(word))}{more}"
     if word not in FORMS:
         return f"there is no line '{word}'; help lists the topics"
-    form = form_of(word, version)
-    wrong = fault_of_words(form.split()[1:], words) or "it has another form"
-    if word in FORMS_OF_EIGHT_DRIVES:
+    its = line_of(word, version)
+    letters, kinds = its.form.split()[1:], [it.lower() for it in kinds_of(its)[1:]]
+    wrong = fault_of_words(letters, kinds, words) or "it has another form"
+    if word in LINES_OF_EIGHT_DRIVES:
         drives = "one drive" if version == 1 else "eight drives"
         wrong += f" (version {version} has {drives})"
-    return f"{form}: {wrong}"
+    return f"{form_of(word, version)}: {wrong}"

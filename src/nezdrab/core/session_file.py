@@ -28,8 +28,7 @@ def session_lines(path: Path) -> list[tuple[int, str]]:
         lines = sessions.lines_of(path.read_bytes())
     except OSError as error:
         raise ExploreError(f"{path}: {error.strerror}") from error
-    table = [*sessions.LANGUAGE, *sessions.SEARCHES]
-    asked = {sessions.command_of(it) for it in table if it.kind != sessions.EDIT}
+    asked = {sessions.command_of(it) for it in sessions.TABLE if it.kind != sessions.EDIT}
     bare = ((number, sessions.without_end(it)) for number, it in enumerate(lines, 1))
     return [
         (number, line.decode(errors="surrogateescape"))

@@ -1,194 +1,34 @@
 """The lines of the session language: their forms, what they are, and how a text of lines and
-replies falls into them. tools/check help compares the table with --help."""
+replies falls into them."""
 import re
 from typing import AnyStr, NamedTuple
+
+from .line_table import ROWS
 
 LONGEST_LINE = 200
 
 
 class Line(NamedTuple):
-    """A line of the language: its form and what it does, as --help shows them, what kind it is, and
-    how its reply begins if the line is taken. If that is its first word and the count C, C lines
-    follow."""
+    """A line of the language, as `search --lines` has it: its form; whether it is of sessions, or of
+    searches alone; what it is; the kinds of its arguments; how its reply begins if the line is
+    taken; which turns it asks of; and what it does. If a reply is its first word and the count C, C
+    lines follow."""
 
     form: str
+    language: str
     kind: str
+    arguments: str
     reply: str
+    turns: str
     summary: str
 
 
-EDIT, QUESTION, LIST, SEARCH = "edit", "question", "list", "search"
-LANGUAGE = [
-    Line("core A W", EDIT, "ok", "the core word at address A is W as of power-up"),
-    Line("uncore A", EDIT, "ok", "take that back"),
-    Line("disk I W", EDIT, "ok", "word I of the drive is W as of power-up"),
-    Line("patches", LIST, "patches C", "list these words"),
-    Line("tape B B ..", EDIT, "ok", "these bytes are the tape in the reader as of power-up"),
-    Line(
-        "delay L N",
-        EDIT,
-        "ok",
-        "an operation of L takes N turns, the clock ticks each N turns (0: by events alone); "
-        "L is printer, reader, punch, disk or clock",
-    ),
-    Line("at T EVENT", EDIT, "event E", "put an event at turn T"),
-    Line("alter E T EVENT", EDIT, "ok", "give event E this turn and this event"),
-    Line("drop E", EDIT, "ok", "take event E out"),
-    Line("regs N", QUESTION, "R0 w", "the registers before turn N"),
-    Line("mem N A C", QUESTION, "mem w", "C words of core from address A on, before turn N"),
-    Line("dsk N I C", QUESTION, "dsk w", "C words of the drive from word I on, before turn N"),
-    Line("text N", QUESTION, "text C:", "what was printed on the console before turn N"),
-    Line("punched N", QUESTION, "punched C:", "what was punched before turn N"),
-    Line(
-        "last N A",
-        QUESTION,
-        "last T",
-        "who last wrote the core word at A before turn N, and when",
-    ),
-    Line("devices N", QUESTION, "devices TKS", "the registers of the devices before turn N"),
-    Line("pages N", QUESTION, "pages SR0", "the registers of memory management before turn N"),
-    Line("trail N C", QUESTION, "trail C", "the last C turns before turn N: PC and act of each"),
-    Line(
-        "version 2",
-        EDIT,
-        "ok",
-        "eight drives from here on, and these lines in place of those of the one drive",
-    ),
-    Line("disk D I W", EDIT, "ok", "word I of drive D is W as of power-up"),
-    Line("dsk N D I C", QUESTION, "dsk w", "C words of drive D from word I on, before turn N"),
-]
-# The further lines of the program search.
-SEARCHES = [
-    Line("first N M at A", SEARCH, "first T", "the first turn that runs the instruction at A"),
-    Line("first N M at A MODE", SEARCH, "first T", "the same in one mode of the processor"),
-    Line(
-        "first N M vector V",
-        SEARCH,
-        "first T",
-        "the first turn that serves an interrupt through V",
-    ),
-    Line("first N M trap V", SEARCH, "first T", "the first turn that has a trap through V"),
-    Line(
-        "first N M where CONDITION",
-        SEARCH,
-        "first T",
-        "the first turn that meets the CONDITION",
-    ),
-    Line("latest N M at A", SEARCH, "latest T", "the last turn that runs the instruction at A"),
-    Line("latest N M at A MODE", SEARCH, "latest T", "the same in one mode of the processor"),
-    Line(
-        "latest N M vector V",
-        SEARCH,
-        "latest T",
-        "the last turn that serves an interrupt through V",
-    ),
-    Line("latest N M trap V", SEARCH, "latest T", "the last turn that has a trap through V"),
-    Line(
-        "latest N M where CONDITION",
-        SEARCH,
-        "latest T",
-        "the last turn that meets the CONDITION",
-    ),
-    Line(
-        "counts N M MODE A C",
-        SEARCH,
-        "counts c",
-        "how many turns run, in the MODE, the instruction at each of C words from A on",
-    ),
-    Line(
-        "writes N M A",
-        SEARCH,
-        "writes C",
-        "the writes to the core word at A: turn, who wrote and the word; after 256 it ends, "
-        "with 'or more' if turns are left",
-    ),
-    Line(
-        "reads N M A",
-        SEARCH,
-        "reads C",
-        "the reads of the core word at A: turn, who read and the word, of each turn the first; "
-        "after 256 it ends, with 'or more' if turns are left",
-    ),
-    Line(
-        "accesses N C",
-        SEARCH,
-        "accesses C",
-        "what the C turns before turn N have in them: mode, PC and act of each, its events, what "
-        "comes out, the function of the disk that is done, and each cycle on the bus; after whole "
-        "turns with 256 cycles it ends, with 'or more' if turns are left",
-    ),
-    Line(
-        "transfers N M",
-        SEARCH,
-        "transfers C",
-        "the functions of the disk that are done: turn, turn begun, function, drive, word, core "
-        "address, how many words, and RKER; after 256 it ends, with 'or more' if turns are left",
-    ),
-    Line("change N M I", SEARCH, "change T", "the first turn that changes word I of the drive"),
-    Line("change N M D I", SEARCH, "change T", "the same of drive D, in version 2"),
-    Line("text N from F", SEARCH, "text C:", "what was printed before turn N, from byte F on"),
-    Line(
-        "punched N from F",
-        SEARCH,
-        "punched C:",
-        "what was punched before turn N, from byte F on",
-    ),
-    Line(
-        "when F",
-        SEARCH,
-        "when T",
-        "the turn in which byte F was printed; the run goes on to that turn, or to turn "
-        "1000000000",
-    ),
-    Line(
-        "translate N MODE A",
-        SEARCH,
-        "translate a",
-        "the physical address of the virtual address A before turn N, or why a read aborts",
-    ),
-    Line(
-        "virtual N MODE A C",
-        SEARCH,
-        "virtual w",
-        "C words from the virtual address A on, before turn N, or the first that can't be read",
-    ),
-    Line(
-        "find N A B W",
-        SEARCH,
-        "find C",
-        "the words of core from A to B that are W before turn N; after 256 it ends, with "
-        "'or more' if there are more",
-    ),
-    Line("find N A B W mask K", SEARCH, "find C", "the same in the bits of K alone"),
-    Line(
-        "finddsk N I J W",
-        SEARCH,
-        "finddsk C",
-        "the words I to J of the drive that are W before turn N",
-    ),
-    Line("finddsk N I J W mask K", SEARCH, "finddsk C", "the same in the bits of K alone"),
-    Line("finddsk N D I J W", SEARCH, "finddsk C", "the words of drive D, in version 2"),
-    Line("finddsk N D I J W mask K", SEARCH, "finddsk C", "the same in the bits of K alone"),
-    Line(
-        "events",
-        SEARCH,
-        "events C",
-        "the events of the script in their order: number, turn and EVENT",
-    ),
-    Line(
-        "setup",
-        SEARCH,
-        "setup version V",
-        "version, units, start, stride, delays in turns, and how many bytes the tape has",
-    ),
-    Line(
-        "fades N EDIT",
-        SEARCH,
-        "fades T",
-        "the turn, up to N, from which on the run with this edit would be the run as it is; EDIT "
-        "is a line core, disk, at, alter or drop, and isn't made",
-    ),
-]
+EDIT, QUESTION = "edit", "question"
+# Which turns a line asks of: the state before one, those of a span, and so many before one.
+STATE, SPAN, LAST = "before N", "N to M", "C before N"
+TABLE = [Line(*row.split("\t")) for row in ROWS.splitlines()]
+LANGUAGE = [it for it in TABLE if it.language == "session"]
+SEARCHES = [it for it in TABLE if it.language == "search"]
 # What a CONDITION is, in which W is an octal word, and the words of it before an address.
 CONDITIONS = (
     "one to four of these with 'and' between them: X = Y, X != Y, X < Y, X > Y, X & W = W, at A, "
@@ -239,12 +79,12 @@ def pattern_of(line: Line) -> str:
 
 
 QUESTIONS = {command_of(line) for line in LANGUAGE if line.kind == QUESTION}
-EDITS = {command_of(line) for line in LANGUAGE if line.kind == EDIT}
+EDITS = {command_of(line) for line in TABLE if line.kind == EDIT}
 # The first word of the reply, if the line is taken, by the first word of the line.
-BEGINNINGS = {command_of(it): it.reply.split()[0].encode() for it in LANGUAGE + SEARCHES}
+BEGINNINGS = {command_of(it): it.reply.split()[0].encode() for it in TABLE}
 REFUSED = b"refused"
 # The reply begins with the command and the count of the lines that follow.
-COUNTED = {command_of(it) for it in LANGUAGE + SEARCHES if it.reply.endswith(" C")}
+COUNTED = {command_of(it) for it in TABLE if it.reply.endswith(" C")}
 WORD, WORD_OF_BYTES = re.compile("[^ \t]+"), re.compile(rb"[^ \t]+")
 
 

@@ -6,7 +6,7 @@ from typing import TYPE_CHECKING, Iterable, Optional, Sequence
 from . import sessions
 from .engine import Machine
 from .errors import ExploreError
-from .language import FADING, FORMS, form_of
+from .language import FADING, LINES, kinds_of, line_of
 from .replies import Mode
 from .sessions import BEFORE_ADDRESS, words_of
 from .values import dataclass, field
@@ -19,8 +19,7 @@ OFFSETS = r"([+-][0-7]{1,10})*"
 # What stands for an address: an octal number, or a symbol, with octal numbers after + and -.
 ADDRESS = rf"([0-7]{{1,10}}|[A-Za-z_.$~%?@][^\s=:+-]*){OFFSETS}"
 OCTAL = "[0-7]+"
-# The letters that stand for addresses in the form of a line, by its first word, if not A alone.
-ADDRESSES = {"find": ("A", "B")}
+AN_ADDRESS, A_WORD = "ADDRESS", "WORD"  # kinds of arguments, as in the forms here
 MODES = (Mode.KERNEL.value, Mode.USER.value)
 
 
@@ -120,27 +119,28 @@ class Symbols:
             if len(pairs) == len(words) and all(it.isupper() or it == word for it, word in pairs):
                 named = (word for it, word in pairs if it == "MODE" and word in MODES)
                 mode = next(map(Mode, named), None)
-                letters = ADDRESSES.get(words[0], ("A",))
-                found = [self.in_octal(word, mode) if it in letters else word for it, word in pairs]
+                found = [
+                    self.in_octal(word, mode) if it == AN_ADDRESS else word for it, word in pairs
+                ]
                 return line if found == words else " ".join(found)
         return line
 
 
 def in_full(form: list[str], words: list[str]) -> list[str]:
-    """A form with a letter for each word of the CONDITION that these words have at its end: A for
-    an address, W for any other word. No form if its length isn't that of the words."""
+    """A form with a kind for each word of the CONDITION that these words have at its end. No form
+    if its length isn't that of the words."""
     if form[-1] == "CONDITION":
         begin = len(form) - 1
         before = words[begin - 1 : -1]
-        form = form[:begin] + ["A" if it in BEFORE_ADDRESS else "W" for it in before]
+        form = form[:begin] + [AN_ADDRESS if it in BEFORE_ADDRESS else A_WORD for it in before]
     return form if len(form) == len(words) else []
 
 
 def forms_of(word: str, version: int) -> list[list[str]]:
-    """The forms of the lines that begin with this word, word by word. For EDIT stand the edits that
-    `fades` takes."""
-    own = [form_of(word, version)] if word in FORMS else []
-    searches = [it.form for it in sessions.SEARCHES if it.form.split()[0] == word]
-    edits = [form_of(it, version) for it in FADING]
-    found = [form.replace("EDIT", it) for form in searches for it in edits]
-    return [it.split() for it in (*own, *dict.fromkeys(found))]
+    """The forms of the lines that begin with this word, word by word, with the kinds of their
+    arguments. For EDIT stand the edits that `fades` takes."""
+    own = [kinds_of(line_of(word, version))] if word in LINES else []
+    searches = [kinds_of(it) for it in sessions.SEARCHES if it.form.split()[0] == word]
+    edits = [kinds_of(line_of(it, version)) for it in FADING]
+    with_edits = [[*it[:-1], *edit] for it in searches if it[-1] == "EDIT" for edit in edits]
+    return own + [it for it in searches if it[-1] != "EDIT"] + with_edits

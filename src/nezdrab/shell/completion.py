@@ -8,7 +8,7 @@ from ..analysis.quotes import begun_word, in_quotes, is_plain
 from ..core import sessions
 from ..core.language import FORMS, LISTS, SEARCHES
 from ..core.replies import Mode
-from ..core.symbols import ADDRESSES, MODES, forms_of
+from ..core.symbols import AN_ADDRESS, MODES, forms_of
 from .commands import COMMANDS, ENDS
 from .mapped import MAPPED_WORDS
 from .topics import LINES, TOPICS
@@ -81,16 +81,15 @@ def takes_address(explorer: Explorer, words: list[str]) -> bool:
         return True
     if words[0] in MAPPED_WORDS and words[-1] in MODES:
         return True
-    letters = ADDRESSES.get(words[0], ("A",))
     forms = forms_of(words[0], explorer.machine.setup.version)
-    return any(is_next(form, words, letters) for form in forms)
+    return any(is_next(form, words) for form in forms)
 
 
-def is_next(form: list[str], words: list[str], letters: tuple[str, ...]) -> bool:
+def is_next(form: list[str], words: list[str]) -> bool:
     """Whether an address comes next in this form of a line."""
     pairs = list(zip(form, words))
     fits = all(it.isupper() or it == word for it, word in pairs)
-    return fits and len(form) > len(words) and form[len(words)] in letters
+    return fits and len(form) > len(words) and form[len(words)] == AN_ADDRESS
 
 
 def symbols_from(explorer: Explorer, words: list[str], text: str) -> list[str]:

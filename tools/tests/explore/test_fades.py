@@ -170,3 +170,9 @@ class Told(Case):
         self.assertEqual(gathered.splitlines()[1:], wanted)
         # without the option it is another sweep
         self.assertIn("of another sweep", self.explore(f"sweep -o kept {line}\n", LEDGER))
+
+    def test_a_sweep_looks_up_to_the_last_turn_of_a_search(self) -> None:
+        for search in ("transfers {}", "writes {} 20000", "first {} at 0"):
+            asked = search.format("128000 128500")
+            written = self.explore(f"sweep --fades 15 from 127250 to 127250: {asked}\n", LEDGER)
+            self.assertIn(f"; {NOT_AGAIN.format(128500)}\n", written)

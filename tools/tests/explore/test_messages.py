@@ -87,7 +87,7 @@ class Messages(Case):
         self.assertEqual(self.explore("see\t2\n", session), self.explore("see 2\n", session))
 
     def test_numbers_with_commas(self) -> None:
-        self.refuses("regs 1,000", "N, a turn, or a count of turns: 1,000 is written 1000, without")
+        self.refuses("regs 1,000", "N, a turn: 1,000 is written 1000, without")
         message = "see: 1,000,000 is written 1000000, without commas; see [N [C]] [operands]"
         self.refuses("see 1,000,000", message)
         for line in (
