@@ -18,7 +18,7 @@ from .operands import Flow
 from .transfers import Transfer, transfers_in
 from .turn_flow import Flows
 
-BLOCK, WINDOW_DELAYS, WINDOW_TURNS = 64, 32, 1000
+BLOCK, NEAR, FEWEST, WINDOW_DELAYS, WINDOW_TURNS = 64, 8, 16, 32, 1000
 # How far back one write is looked for: in turns that are decoded, and in looks at the disk.
 MOST_TURNS_BACK, MOST_LOOKS = 20_000, 20_000
 
@@ -74,12 +74,15 @@ class Graph:
 
 
 class Origins:
-    """Finds the origins of cells before turn `end`. Turns are decoded in blocks, when they are
-    needed."""
+    """Finds the origins of cells before turn `end`. Turns are decoded when they are needed: few for
+    a write to core, whose turn is known, and a block if a write of a register is looked for. If most
+    of the few are decoded again so, blocks are decoded at once."""
 
     def __init__(self, machine: Machine, end: int, places: bool = False):
         self.machine, self.end, self.places = machine, end, places
         self.flows: dict[int, Flow] = {}
+        self.few: set[int] = set()  # blocks of which some turns are decoded, and not all
+        self.decoded_again = 0
         self.written: dict[int, dict[int, list[tuple[int, int]]]] = {}
         self.lasts: dict[tuple[int, int], Optional[tuple[int, str]]] = {}
         self.windows: dict[int, list[Transfer]] = {}
@@ -94,10 +97,17 @@ class Origins:
 
     def flow(self, turn: int) -> Flow:
         if turn not in self.flows:
-            self.decode(turn - turn % BLOCK)
+            if 2 * self.decoded_again > max(FEWEST, len(self.few)):
+                self.decode(turn - turn % BLOCK)
+            else:
+                begin = turn - turn % NEAR
+                few = Flows(self.machine, range(begin, min(begin + NEAR, self.end)))
+                self.flows.update((it.turn, it) for it in few)
+                self.few.add(turn - turn % BLOCK)
         return self.flows[turn]
 
     def decode(self, first: int) -> None:
+        self.decoded_again += first in self.few
         written: dict[int, list[tuple[int, int]]] = defaultdict(list)
         for flow in Flows(self.machine, range(first, min(first + BLOCK, self.end))):
             self.flows[flow.turn] = flow

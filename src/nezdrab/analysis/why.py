@@ -171,8 +171,7 @@ def why(explorer: Explorer, arguments: Arguments) -> Iterator[str]:
     graph = origins.graph([it.origin for it in begins], most)
     steps = Steps(origins, graph)
     account = Account(explorer, steps)
-    is_one = what.cells and name_of(what.cells[0]) == name_of(what.cells[-1])
-    value = account.value(what.cells[0], turn) if is_one else ""
+    value = account.value(what.cells[0], turn) if what.cells and "," not in what.name else ""
     yield f"{what.name} before turn {turn}{f': {value}' if value else ''}"
     add_roots(account, begins)
     yield from account.written()

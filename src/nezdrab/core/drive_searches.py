@@ -26,10 +26,10 @@ TURNED = {"=": "=", "!=": "!=", "<": ">", ">": "<"}
 
 def is_of_drive(line: str) -> bool:
     """Whether a line is a search for a CONDITION with a word of a drive."""
-    if not line.startswith(SEARCHES) or "disk" not in line or len(line) > LONGEST_LINE:
+    if "disk" not in line or len(line) > LONGEST_LINE:
         return False
-    word, *rest = words_of(line)
-    return word in SEARCHES and rest[2:3] == ["where"] and "disk" in rest[3:]
+    words = words_of(line)
+    return words[0] in SEARCHES and words[3:4] == ["where"] and "disk" in words[4:]
 
 
 def is_turn(word: str) -> bool:

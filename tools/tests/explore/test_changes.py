@@ -162,7 +162,9 @@ class Changes(OfSystems):
         refused = (
             ("changes", "changes: the form is: changes A "),
             ("changes 1", "changes: mem 0 1 1: refused 3 OddAddress"),
-            ("changes 777777", "changes: mem 0 777777 1: refused 2 OutsideCore"),
+            ("changes 777777", "changes: 777777 is odd"),
+            ("changes 777000", "changes: 777000 is no register's address"),
+            ("changes 777774..777776", "refused 2 OutsideCore"),
             ("changes disk 4604000", "changes: dsk 0 4604000 1: refused 4 OutsideDisk"),
             ("changes disk 1 0", "changes: version 1 has one drive, which isn't named"),
             ("changes 30000 from 5 to 4", "changes: turn 4 comes before turn 5"),

@@ -49,8 +49,8 @@ class BruteForce(OfSystems):
         machine, turns = self.machine(LEDGER), range(3_000, 4_500)
         wanted, before = list[Row](), "------"
         for turn in turns:
-            (found,), _ = machine.accesses(range(turn, turn + 1))
-            for it in found.cycles:
+            (had,), _ = machine.accesses(range(turn, turn + 1))
+            for it in had.cycles:
                 if it.address == TPB and it.kind != CycleKind.READ and it.value is not None:
                     after = f"{it.value:06o}"
                     wanted += [(turn, before, after)] if after != before else []

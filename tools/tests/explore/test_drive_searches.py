@@ -125,6 +125,8 @@ class AsALine(OfSystems):
             (f"first 0 9 where disk 0 = 1{' and R0 = 1' * 4}", "refused 10 BadLine"),
         ):
             self.assertEqual(self.explore(f"{line}\n", *LEDGER).splitlines()[0], reply, line)
+        blanks = "\t first  0 9\twhere disk  0 =  100\n"
+        self.assertEqual(self.explore(blanks, *LEDGER), "first 0\n")
         self.assertEqual(
             self.explore("first 0 9 where disk 10 0 = 1\n", *PACKS).splitlines()[0],
             "refused 16 NoSuchDrive",

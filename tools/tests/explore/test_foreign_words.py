@@ -121,7 +121,7 @@ FIRST_LINES = (
     ("reset", "console from 0"),
 )
 DONE = ("b 1000 if R0==5", "c", "s 3", "n", "bt", "x/4xw $sp", "d 1", "e 1000/10", "d 2000 5")
-DONE += ("n 3", "rs 2", "rn 2", "c 5", "rc 2", "x 0x200", "x/4 $sp+2", "x COUNT")
+COUNTED = ("n 3", "rs 2", "rn 2", "c 5", "rc 2", "x 0x200", "x/4 $sp+2", "x COUNT")
 EXAMINED = ("x/20i 1000", "x/20i $pc", "x/8o 1000", "x/8b 1000", "x/5c", "x/0", "ex/4")
 # What stands for the letters when a line is typed.
 TYPED = {
@@ -257,7 +257,7 @@ class Leads(OnMachine):
             return str(error)
 
     def test_a_line_that_is_done_shows_what_its_own_line_shows(self) -> None:
-        for line in DONE:
+        for line in (*DONE, *COUNTED):
             (first,) = (own for it, own in FIRST_LINES if it == line)
             own = line_of(self.said(self.prompt(), line), line.partition(" ")[2])
             self.assertEqual(self.typed(own), self.typed(first), line)

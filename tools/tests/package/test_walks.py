@@ -1,7 +1,7 @@
 """Branches, extremes, changes of registers and words of drives in conditions, each against what is
 asked of every turn."""
 from itertools import groupby, islice
-from typing import Callable
+from typing import Callable, Union
 
 from nezdrab import Machine, Mode, NezdrabError, Refused
 
@@ -62,13 +62,13 @@ class OfTurns(Case):
         firsts = {name: since + pointers[name].index(it) for name, it in least.items()}
         self.assertEqual(found.least, {it: (least[it], firsts[it]) for it in least})
         slowest: dict[int, int] = {}
-        for turn in m.trail(END, END - since):
-            if turn.vector is None or m.regs(turn.turn + 1).mode is Mode.USER:
+        for act in m.trail(END, END - since):
+            if act.vector is None or m.regs(act.turn + 1).mode is Mode.USER:
                 continue
-            pointer = m.regs(turn.turn + 1).ksp
-            left = (it for it, row in enumerate(rows, since) if it > turn.turn and row.ksp > pointer)
-            took = next(left, turn.turn) - turn.turn
-            slowest[turn.vector] = max(slowest.get(turn.vector, 0), took)
+            pointer = m.regs(act.turn + 1).ksp
+            left = (it for it, row in enumerate(rows, since) if it > act.turn and row.ksp > pointer)
+            took = next(left, act.turn) - act.turn
+            slowest[act.vector] = max(slowest.get(act.vector, 0), took)
         self.assertEqual({it: len(took) for it, took in found.slowest.items()}, slowest)
         self.assertGreater(len(slowest), 1)
 
@@ -76,7 +76,8 @@ class OfTurns(Case):
         m, since = self.m, 2_900
         values = [m.devices(it)["TKS"] for it in range(since, END + 1)]
         wanted = [it for it in zip(range(since, END), values, values[1:]) if it[1] != it[2]]
-        for name in ("TKS", 0o777560):
+        named: tuple[Union[str, int], ...] = ("TKS", 0o777560)
+        for name in named:
             found = [tuple(it) for it in m.register_changes(name, since=since, until=END)]
             self.assertEqual(found, wanted)
         self.assertGreater(len(wanted), 1)
@@ -84,7 +85,8 @@ class OfTurns(Case):
         printed = bytes(byte for byte, _ in groupby(m.text(END)))
         self.assertGreater(len(printed), 4)
         self.assertEqual(sent[: len(printed)], printed)
-        for wrong in ("SR1", 0o2000):
+        none: tuple[Union[str, int], ...] = ("SR1", 0o2000)
+        for wrong in none:
             with self.assertRaises(NezdrabError):
                 list(m.register_changes(wrong, until=5))
 
