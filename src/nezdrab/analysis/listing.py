@@ -209,6 +209,11 @@ class Listed:
         """The physical address of this one, if it has one."""
         return address if self.mode is None else self.physical[address % VIRTUAL]
 
+    def word(self, address: int) -> Optional[int]:
+        """The word at an even address, if there is one."""
+        place = self.place(address) if 0 <= address < self.end else None
+        return None if place is None else self.words.get(place)
+
     def words_at(self, address: int) -> list[int]:
         """The words of an instruction at the address, as far as they are in core."""
         if address >= self.end:

@@ -8,7 +8,6 @@ from ..analysis.explorer import Explorer
 from ..analysis.listing import INSTRUCTION_WORDS, PHYSICAL, VIRTUAL, Listed, instruction_of
 from ..core.errors import ExploreError
 from ..core.replies import Mode
-from ..core.values import dataclass
 from .sources import Place, Sources, source
 from .wire import Fields, Object
 
@@ -41,24 +40,11 @@ def moved_place(fields: Fields, name: str) -> Place:
     return Place(mode, address + fields.number("offset", 0))
 
 
-@dataclass(frozen=True)
-class Words:
-    """The words of these addresses before a turn, as far as there are any."""
-
-    listed: Listed
-
-    @classmethod
-    def of(cls, explorer: Explorer, mode: Optional[Mode], addresses: range) -> "Words":
-        """Of addresses from an even one on."""
-        first = max(0, addresses.start)
-        count = max(1, -(-(addresses.stop - first) // LONGEST) + 1)
-        return cls(Listed.of(explorer.machine, explorer.turn, mode, first, count))
-
-    def word(self, address: int) -> Optional[int]:
-        if not 0 <= address < self.listed.end:
-            return None
-        place = self.listed.place(address)
-        return None if place is None else self.listed.words.get(place)
+def listed_at(explorer: Explorer, mode: Optional[Mode], addresses: range) -> Listed:
+    """The words of these addresses, from an even one on, before the current turn."""
+    first = max(0, addresses.start)
+    count = max(1, -(-(addresses.stop - first) // LONGEST) + 1)
+    return Listed.of(explorer.machine, explorer.turn, mode, first, count)
 
 
 def read(explorer: Explorer, fields: Fields) -> Object:
@@ -71,10 +57,10 @@ def read(explorer: Explorer, fields: Fields) -> Object:
     end = VIRTUAL if mode else PHYSICAL
     bytes_at = range(address, min(address + count, max(end, address)))
     even = range(bytes_at.start & ~1, bytes_at.stop)
-    words = Words.of(explorer, mode, even) if bytes_at and address >= 0 else None
+    listed = listed_at(explorer, mode, even) if bytes_at and address >= 0 else None
     data = bytearray()
-    for at in even[::2] if words else ():
-        word = words.word(at) if words else None
+    for at in even[::2] if listed else ():
+        word = listed.word(at) if listed else None
         if word is None:
             break
         data += word.to_bytes(2, "little")
@@ -90,11 +76,11 @@ class Instructions:
 
     def __init__(self, explorer: Explorer, sources: Sources, mode: Optional[Mode], near: range):
         self.explorer, self.sources, self.mode = explorer, sources, mode
-        self.words = Words.of(explorer, mode, near)
+        self.listed = listed_at(explorer, mode, near)
 
     def bytes_at(self, address: int) -> int:
         """How many bytes the instruction at the address has."""
-        words = self.words.listed.words_at(address) if address >= 0 else []
+        words = self.listed.words_at(address) if address >= 0 else []
         return 2 * instruction_of(self.explorer, address % VIRTUAL, words).words if words else 2
 
     def before(self, address: int) -> int:
@@ -106,13 +92,13 @@ class Instructions:
 
     def shown(self, address: int) -> Object:
         """An instruction as the protocol has it."""
-        words = self.words.listed.words_at(address) if address >= 0 else []
+        words = self.listed.words_at(address) if address >= 0 else []
         if not words:
             nothing = "no core" if address >= 0 else "no address"
             where = reference(self.mode, max(0, address))
             return {"address": where, "instruction": nothing, "presentationHint": "invalid"}
         found = instruction_of(self.explorer, address % VIRTUAL, words)
-        symbol = self.words.listed.symbol(self.explorer, address)
+        symbol = self.listed.symbol(self.explorer, address)
         line = self.sources.line_of(self.mode, address)
         return {
             "address": reference(self.mode, address),

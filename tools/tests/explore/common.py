@@ -49,6 +49,10 @@ class Case(unittest.TestCase):
         mine = {"XDG_STATE_HOME": self.state, "TERM": "dumb"}
         return {**{it: os.environ[it] for it in os.environ if it != "PYTHONUNBUFFERED"}, **mine}
 
+    def full_disk(self) -> dict[str, str]:
+        """The same where files can't grow: Python would leave cut modules in its cache."""
+        return {**self.environment(), "XDG_CACHE_HOME": "none"}
+
     def explore(self, lines: str, *words: str, status: Optional[int] = 0) -> str:
         """What explore writes for these lines of a pipe."""
         ended = subprocess.run(

@@ -114,7 +114,7 @@ class Refusals(OfSystems):
             [*limited, "--no-journal", *LEDGER],
             input="".join(f"{it}\n" for it in lines),
             cwd=self.folder,
-            env=self.environment(),
+            env=self.full_disk(),
             capture_output=True,
             text=True,
             timeout=SECONDS,

@@ -111,7 +111,7 @@ class Files(Case):
             limited,
             input=f"{lines}save! mine.session\nregs 0\n",
             cwd=self.folder,
-            env={**self.environment(), "XDG_CACHE_HOME": "none"},  # Python would keep cut modules
+            env=self.full_disk(),
             capture_output=True,
             text=True,
             timeout=SECONDS,

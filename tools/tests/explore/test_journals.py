@@ -267,7 +267,7 @@ class Journals(AtTerminal):
             [*limited, *self.command("--journal", "mine")],
             input=f"{lines}patches\n",
             cwd=self.folder,
-            env=self.environment(),
+            env=self.full_disk(),
             capture_output=True,
             text=True,
             timeout=SECONDS,

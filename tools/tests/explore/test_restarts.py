@@ -136,7 +136,7 @@ class Full(Media):
             [*limited, *self.command("--journal", "mine")],
             input=lines,
             cwd=self.folder,
-            env=self.environment(),
+            env=self.full_disk(),
             capture_output=True,
             text=True,
             timeout=SECONDS,

@@ -125,7 +125,7 @@ class Sweeps(AtTerminal):
             [*limited, *self.command(SESSION)],
             input="sweep -j 1 -o kept key 101 from 0 to 90: regs 95\n",
             cwd=self.folder,
-            env=self.environment(),
+            env=self.full_disk(),
             capture_output=True,
             text=True,
             timeout=SECONDS,
