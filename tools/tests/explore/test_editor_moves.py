@@ -4,8 +4,8 @@ from typing import Iterator, Optional
 
 from checks.word_reads import first_reads_in
 from nezdrab.analysis.explorer import Explorer
-from nezdrab.core.drive_searches import FIRST_PART
 from nezdrab.analysis.levels import Stacks
+from nezdrab.core.drive_searches import FIRST_PART
 from nezdrab.core.engine import SHORT_SENT_AHEAD
 from nezdrab.core.replies import Registers, Turn
 from nezdrab.dap.running import ahead
