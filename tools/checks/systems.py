@@ -6,7 +6,7 @@ from typing import NamedTuple
 import sessions
 
 # Of a reply that begins with one of these words and a count, so many lines follow.
-LISTS = {"trail", "patches", "writes", "reads", "accesses", "transfers", "find", "finddsk", "events"}
+LISTS = {it.decode() for it in sessions.COUNTED}
 LONGEST_TRAIL = 64
 WORDS_OF_PAGE = 256
 DELAYS = {"printer": 1, "reader": 4, "punch": 4, "disk": 10, "clock": 0}
