@@ -17,7 +17,7 @@ class Line(NamedTuple):
     summary: str
 
 
-EDIT, QUESTION, LIST, SEARCH = "edit", "question", "list", "search"
+EDIT, QUESTION, LIST, SEARCH, STEP = "edit", "question", "list", "search", "step"
 LANGUAGE = [
     Line("core A W", EDIT, "ok", "the core word at address A is W as of power-up"),
     Line("uncore A", EDIT, "ok", "take that back"),
@@ -188,6 +188,19 @@ SEARCHES = [
         "the turn, up to N, from which on the run with this edit would be the run as it is; EDIT "
         "is a line core, disk, at, alter or drop, and isn't made",
     ),
+    Line(
+        "undo",
+        STEP,
+        "ok",
+        "takes the last edit back, also the number of its event; version 2 and edits before it "
+        "stay",
+    ),
+    Line(
+        "redo",
+        STEP,
+        "ok",
+        "makes the edit again that was taken back last, if there was no other since",
+    ),
 ]
 # What a CONDITION is, in which W is an octal word, and the words of it before an address.
 CONDITIONS = (
@@ -221,6 +234,7 @@ REFUSALS = {
     "11": f"the line has more than {LONGEST_LINE} bytes",
     "16": "the drive's number is above 7",
 }
+REFUSALS_OF_SEARCH = {**REFUSALS, "17": "there is no edit to take back, or to make again"}
 
 
 def command_of(line: Line) -> bytes:
