@@ -1,6 +1,7 @@
 //! An engine with the pasts that undo and redo lead to.
 
-ghost use Rattle.std.specs.Prelude.{◌≡◌, reverse};
+ghost use Rattle.std.specs.Prelude.{◌≡◌, ◌<◌, ◌∷◌, ◌++◌, [], reverse};
+ghost use Rattle.std.specs.Vec.{vec_capacity, vec_len};
 ghost use Rattle.pdp_script.specs.Refusal.{for_memory, question_answer};
 ghost use Rattle.pdp_session.specs.Edit.{wants_memory};
 ghost use Rattle.pdp_session.specs.History.{LeadBack, Steps, pasts};
@@ -138,8 +139,7 @@ impl History {
         if is_refused(&reply) {
             return reply;
         }
-        let _ = self.done.push(before);
-        self.undone.clear(); // what was taken back can't be made again after another edit
+        keep(before, &mut self.done, &mut self.undone);
         reply
     }
 
@@ -181,6 +181,16 @@ impl History {
             Step::Redo => take_step(alloc, &mut self.engine, &mut self.undone, &mut self.done),
         }
     }
+}
+
+/// Keeps what takes an edit back, in the room that is there. After it there is none to make again.
+fn keep(before: Before, done: &mut Vec<Before>, undone: &mut Vec<Before>)
+    requires room { vec_len done.old < vec_capacity done.old }
+    ensures done { done.new.items ≡ done.old.items ++ before ∷ [] }
+    ensures undone { undone.new.items ≡ [] }
+{
+    let _ = done.push(before);
+    undone.clear();
 }
 
 /// Gives the engine's past back what the last of `from` has, and what the past had of the same thing

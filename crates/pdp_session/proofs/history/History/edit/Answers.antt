@@ -1,4 +1,4 @@
-use Rattle.std.proofs.Common.{◌≡◌, ◌∙◌, ◌++◌, ◌∷◌, [], rules, sym}
+use Rattle.std.proofs.Common.{◌∙◌, sym}
 use Rattle.pdp_session.specs.History.{pasts_from}
 use Rattle.pdp_session.proofs.Commanding.{edit_done, edit_failed, edit_refused, edit_unkept}
 use Rattle.pdp_session.proofs.Histories.{edited_leads, edited_pasts}
@@ -41,8 +41,8 @@ invariant_of-self-2 c =
     let before = c.in-Ok-before_edit.before in
     let done = edit_done c.args.edit (pasts_from e.engine.past e.done.items e.undone.items) c.run_edit-reply.result now
     (sym c.in_default.ensures) c.run_edit-reply.ensures.reply c.run_edit-reply.ensures.after (sym c.if-is_refused.ensures) in
-    let pushed : c.push.new.self.items ≡ e.done.items ++ before ∷ [] = search rules in
-    edited_leads before e.engine.past now e.done.items c.push.new.self.items c.clear.new.self.items (c.in-Ok-before_edit.ensures now done.is) pushed c.clear.ensures.items
+    let pushed = rw c.reserve.ensures.items at c.keep.ensures.done in
+    edited_leads before e.engine.past now e.done.items c.keep.new.done.items c.keep.new.undone.items (c.in-Ok-before_edit.ensures now done.is) pushed c.keep.ensures.undone
     c.self.invariant.0
 
 pub returns-clause-after : goal.returns-clause-after
@@ -52,7 +52,7 @@ returns-clause-after c =
     let before = c.in-Ok-before_edit.before in
     let done = edit_done c.args.edit (pasts_from e.engine.past e.done.items e.undone.items) c.run_edit-reply.result now
     (sym c.in_default.ensures) c.run_edit-reply.ensures.reply c.run_edit-reply.ensures.after (sym c.if-is_refused.ensures) in
-    let pushed : c.push.new.self.items ≡ e.done.items ++ before ∷ [] = search rules in
+    let pushed = rw c.reserve.ensures.items at c.keep.ensures.done in
     rw (← c.self.view_is)
-    (edited_pasts before e.engine.past now e.done.items c.push.new.self.items e.undone.items c.clear.new.self.items (c.in-Ok-before_edit.ensures now done.is) pushed c.clear.ensures.items
-    ∙ done.after)
+    (edited_pasts before e.engine.past now e.done.items c.keep.new.done.items e.undone.items c.keep.new.undone.items (c.in-Ok-before_edit.ensures now done.is) pushed
+    c.keep.ensures.undone ∙ done.after)
