@@ -1,5 +1,5 @@
 -- What some turns have in them, as lines [P].
-use Rattle.std.specs.Prelude.{ℕ, Bool, true, false, List, [], Option, None, Some, ◌++◌, codes}
+use Rattle.std.specs.Prelude.{ℕ, Bool, List, [], Option, None, Some, ◌++◌, codes}
 use Rattle.std.specs.Prelude.{decimal, length, nat_lt, if◌then◌else◌}
 use Rattle.std.specs.List.{flat_map}
 use Rattle.pdp_word.specs.Number.{octal_digits}

@@ -1,12 +1,15 @@
 ghost use Rattle.std.specs.Prelude.{◌≡◌, true, false, Ok, OnOk, IfErr, IsErrOf};
 ghost use Rattle.pdp_replay.specs.Past.Setup.{given_setup};
 ghost use Rattle.pdp_replay.specs.Past.{starting_past};
+ghost use Rattle.pdp_session.specs.History.{pasts};
 ghost use Rattle.pdp_session.specs.Language.{language_with};
+ghost use Rattle.pdp_session.specs.Pasts.{pasts_begun};
 ghost use Rattle.pdp_session.specs.Session.{Session, is_told_first};
 ghost use Rattle.pdp_session.specs.Streams.{streams_of};
 
 mod serving;
 
+use crate::history::History;
 use crate::lines::Held;
 use crate::streams::{Drain, Feed};
 use pdp_replay::{Engine, Fault, Setup};
@@ -53,20 +56,22 @@ pub fn run<const SEARCHES: bool, R: Feed, W: Drain>(
     ensures sound { OnOk result (((R.input reader.new).has_failed ≡ false)
         × ((W.output writer.new).has_failed ≡ false)) }
 {
-    let mut engine = Engine::new(alloc, setup)?;
-    serve::<SEARCHES, R, W>(alloc, &mut engine, reader, writer)
+    let engine = Engine::new(alloc, setup)?;
+    let mut history = History::new(alloc, engine);
+    serve::<SEARCHES, R, W>(alloc, &mut history, reader, writer)
 }
 
-/// Runs a session on an engine.
+/// Runs a session on an engine none of whose edits can be taken back yet.
 fn serve<const SEARCHES: bool, R: Feed, W: Drain>(
     alloc: Global,
-    engine: &mut Engine,
+    history: &mut History,
     reader: &mut R,
     writer: &mut W,
 ) -> Result<(), Fault>
+    requires begun { pasts history.old ≡ pasts_begun history.old.engine.past }
     requires reader_sound { (R.input reader.old).has_failed ≡ false }
     requires writer_sound { (W.output writer.old).has_failed ≡ false }
-    ensures session { Session (language_with SEARCHES) (Ok engine.old.past)
+    ensures session { Session (language_with SEARCHES) (Ok history.old.engine.past)
         (streams_of (R.input reader.old) (W.output writer.old))
         (streams_of (R.input reader.new) (W.output writer.new)) result }
     ensures began { IfErr result (λ fault. is_told_first fault ≡ false) }
@@ -80,14 +85,14 @@ fn serve<const SEARCHES: bool, R: Feed, W: Drain>(
     loop {
         match reader.pull(&mut chunk) {
             Ok(0) => {
-                return match serve_last_line::<SEARCHES, W>(alloc, engine, &held, writer) {
+                return match serve_last_line::<SEARCHES, W>(alloc, history, &held, writer) {
                     Ok(()) => Ok(()),
                     Err(_) => Err(Fault::Output),
                 };
             }
             Ok(count) => {
                 let (bytes, _) = chunk.split_at(count);
-                match take_bytes::<SEARCHES, W>(alloc, engine, &mut held, bytes, writer) {
+                match take_bytes::<SEARCHES, W>(alloc, history, &mut held, bytes, writer) {
                     Ok(()) => {}
                     Err(_) => return Err(Fault::Output),
                 }

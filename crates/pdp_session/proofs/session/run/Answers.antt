@@ -27,7 +27,8 @@ returns-in_err-engine-clause-output g c = λ failed.
 
 pub returns-clause-session : goal.returns-clause-session
 returns-clause-session g c =
-    rw (starts_with (setup_checked (given_setup c.args.setup)) _ c.in_ok-engine.engine c.in_ok-engine.ensures.engine) c.serve.ensures.session
+    let began = rw c.new-history.ensures.engine at c.serve.ensures.session in
+    rw (starts_with (setup_checked (given_setup c.args.setup)) _ c.in_ok-engine.engine c.in_ok-engine.ensures.engine) began
 
 pub returns-in_err-engine-clause-session : goal.returns-in_err-engine-clause-session
 returns-in_err-engine-clause-session g c =
