@@ -1,6 +1,6 @@
 //! From which turn on an edit of the script would change nothing.
 
-use crate::steps::{self, Step, WIDEST, engine_of, follow};
+use crate::steps::{self, TestedStep, WIDEST, engine_of, follow};
 use pdp_replay::*;
 use std::alloc::Global;
 use std::process::Abort;
@@ -12,7 +12,7 @@ const FETCHES_KEYS: [u16; 6] = [0o105737, 0o177560, 0o100375, 0o13700, 0o177562,
 
 /// An edit. Key 101 comes in turn 5000 as event 1, and key 102 in turn 9000 as event 2.
 #[derive(Clone, Copy)]
-enum Edit {
+enum TestedEdit {
     /// Event 1 comes in this turn, with this key.
     Alter(u32, u8),
     /// Event 1 goes.
@@ -25,51 +25,51 @@ enum Edit {
     Core(u32, u16),
 }
 
-impl Edit {
+impl TestedEdit {
     fn of_past(self) -> PastEdit {
         PastEdit::Script(match self {
-            Edit::Alter(turn, key) => ScriptEdit::Alter {
+            TestedEdit::Alter(turn, key) => ScriptEdit::Alter {
                 number: 1,
                 turn,
                 event: Event::Key(key),
             },
-            Edit::Drop => ScriptEdit::Drop { number: 1 },
-            Edit::Tick(turn) => ScriptEdit::Insert {
+            TestedEdit::Drop => ScriptEdit::Drop { number: 1 },
+            TestedEdit::Tick(turn) => ScriptEdit::Insert {
                 turn,
                 event: Event::Tick,
             },
-            Edit::Key(turn) => ScriptEdit::Insert {
+            TestedEdit::Key(turn) => ScriptEdit::Insert {
                 turn,
                 event: Event::Key(0o101),
             },
-            Edit::Core(address, word) => return PastEdit::Word(Patch::Core(address, word)),
+            TestedEdit::Core(address, word) => return PastEdit::Word(Patch::Core(address, word)),
         })
     }
 }
 
 /// The edit, the turn up to which is looked, and the turn from which on it would change nothing.
-const FADINGS: [(Edit, u32, Option<u32>); 10] = [
+const FADINGS: [(TestedEdit, u32, Option<u32>); 10] = [
     // The key is fetched four turns later, and the TSTB after it sets the condition codes.
-    (Edit::Alter(5003, 0o101), 20_000, Some(5009)),
-    (Edit::Alter(5003, 0o101), 5009, Some(5009)),
-    (Edit::Alter(5003, 0o101), 5008, None),
+    (TestedEdit::Alter(5003, 0o101), 20_000, Some(5009)),
+    (TestedEdit::Alter(5003, 0o101), 5009, Some(5009)),
+    (TestedEdit::Alter(5003, 0o101), 5008, None),
     // The event stays as it is.
-    (Edit::Alter(5000, 0o101), 20_000, Some(0)),
+    (TestedEdit::Alter(5000, 0o101), 20_000, Some(0)),
     // Register 0 differs until key 102 is fetched in turn 9002.
-    (Edit::Alter(5000, 0o103), 20_000, Some(9003)),
-    (Edit::Drop, 20_000, Some(9003)),
+    (TestedEdit::Alter(5000, 0o103), 20_000, Some(9003)),
+    (TestedEdit::Drop, 20_000, Some(9003)),
     // The clock's monitor bit is set already.
-    (Edit::Tick(7000), 20_000, Some(7001)),
-    (Edit::Key(7000), 7004, None),
+    (TestedEdit::Tick(7000), 20_000, Some(7001)),
+    (TestedEdit::Key(7000), 7004, None),
     // No turn touches this word, which is 0.
-    (Edit::Core(0o20000, 0), 20_000, Some(0)),
-    (Edit::Core(0o20000, 1), 20_000, None),
+    (TestedEdit::Core(0o20000, 0), 20_000, Some(0)),
+    (TestedEdit::Core(0o20000, 1), 20_000, None),
 ];
 
 /// Both keys are put into the script, and then the edits are asked about.
-const KEYS: [Step; 2] = [
-    Step::Edit(steps::Edit::Insert(5000, Event::Key(0o101)), Ok(1)),
-    Step::Edit(steps::Edit::Insert(9000, Event::Key(0o102)), Ok(2)),
+const KEYS: [TestedStep; 2] = [
+    TestedStep::Edit(steps::TestedEdit::Insert(5000, Event::Key(0o101)), Ok(1)),
+    TestedStep::Edit(steps::TestedEdit::Insert(9000, Event::Key(0o102)), Ok(2)),
 ];
 
 fn assert_fades(rt: &impl Abort, alloc: Global, engine: &mut Engine) -> Result<(), Fail> {
@@ -86,7 +86,7 @@ fn assert_refused(rt: &impl Abort, alloc: Global, engine: &mut Engine) -> Result
     assert_eq!(rt; refused, Some(Fault::NoSuchEvent));
     let refused = engine.fades(alloc, missing, 1_000_000_001).err();
     assert_eq!(rt; refused, Some(Fault::TurnTooLarge));
-    let odd = Edit::Core(0o20001, 1).of_past();
+    let odd = TestedEdit::Core(0o20001, 1).of_past();
     assert_eq!(rt;
         engine.fades(alloc, odd, 100).err(),
         Some(Fault::OddAddress)

@@ -1,6 +1,6 @@
 //! Which states are kept, and how many turns are run from them for questions in any order.
 
-use crate::steps::{Edit, Step, ask, engine_of, follow};
+use crate::steps::{TestedEdit, TestedStep, ask, engine_of, follow};
 use pdp_cpu::KeptByte;
 use pdp_replay::*;
 use std::alloc::Global;
@@ -43,14 +43,14 @@ fn assert_kept(rt: &impl Abort, engine: &Engine, turn: u32, want: (u32, u32)) {
 }
 
 /// The 257th state, that of turn 256, doubles the stride: the states of turns 0, 2, .. 256 stay.
-const FILLS: [Step; 1] = [Step::Ran(Question::Regs(255), 255, 255)];
+const FILLS: [TestedStep; 1] = [TestedStep::Ran(Question::Regs(255), 255, 255)];
 
-const DOUBLES: [Step; 5] = [
-    Step::Ran(Question::Regs(256), 1, 256),
-    Step::Ran(Question::Regs(300), 44, 300),
-    Step::Ran(Question::Regs(255), 1, 300),
-    Step::Edit(Edit::Insert(100, Event::Tick), Ok(1)),
-    Step::Ran(Question::Trail(300, 64), 200, 300),
+const DOUBLES: [TestedStep; 5] = [
+    TestedStep::Ran(Question::Regs(256), 1, 256),
+    TestedStep::Ran(Question::Regs(300), 44, 300),
+    TestedStep::Ran(Question::Regs(255), 1, 300),
+    TestedStep::Edit(TestedEdit::Insert(100, Event::Tick), Ok(1)),
+    TestedStep::Ran(Question::Trail(300, 64), 200, 300),
 ];
 
 fn assert_doubles(rt: &impl Abort, alloc: Global, engine: &mut Engine) -> Result<(), Fail> {
@@ -75,12 +75,15 @@ fn assert_machine(rt: &impl Abort, engine: &Engine) {
     assert_eq!(rt; machine.punched(), PUNCHED_A.as_slice());
 }
 
-const BACK_TO_TURN_7: [Step; 2] = [
-    Step::Ran(Question::Text(11), 11, 11),
-    Step::Ran(Question::Text(7), 3, 11),
+const BACK_TO_TURN_7: [TestedStep; 2] = [
+    TestedStep::Ran(Question::Text(11), 11, 11),
+    TestedStep::Ran(Question::Text(7), 3, 11),
 ];
 
-const EVENT_AT_TURN_5: [Step; 1] = [Step::Edit(Edit::Insert(5, Event::Tick), Ok(1))];
+const EVENT_AT_TURN_5: [TestedStep; 1] = [TestedStep::Edit(
+    TestedEdit::Insert(5, Event::Tick),
+    Ok(1),
+)];
 
 /// By turn 11 the states of the turns 0, 4 and 8 are kept, and then the machine goes back to turn
 /// 7. The edit leaves the states of the turns 0 and 4.
@@ -102,18 +105,18 @@ fn machine_and_kept_states(rt: HostRuntime) -> Result<(), Fail> {
 
 /// An early question leaves what was printed and punched by the known turn. An edit at a turn
 /// leaves what was printed and punched before it.
-const TEXTS: [Step; 11] = [
-    Step::Ran(Question::Text(100), 100, 100),
-    Step::Ran(Question::Text(3), 3, 100),
-    Step::Ran(Question::Text(100), 0, 100),
-    Step::Ran(Question::Punched(8), 0, 100),
-    Step::Ran(Question::Punched(100), 0, 100),
-    Step::Ran(Question::Text(103), 3, 103),
-    Step::Ran(Question::Text(0), 0, 103),
-    Step::Edit(Edit::Insert(50, Event::Tick), Ok(1)),
-    Step::Ran(Question::Text(8), 0, 50),
-    Step::Ran(Question::Text(52), 4, 52),
-    Step::Ran(Question::Text(100), 48, 100),
+const TEXTS: [TestedStep; 11] = [
+    TestedStep::Ran(Question::Text(100), 100, 100),
+    TestedStep::Ran(Question::Text(3), 3, 100),
+    TestedStep::Ran(Question::Text(100), 0, 100),
+    TestedStep::Ran(Question::Punched(8), 0, 100),
+    TestedStep::Ran(Question::Punched(100), 0, 100),
+    TestedStep::Ran(Question::Text(103), 3, 103),
+    TestedStep::Ran(Question::Text(0), 0, 103),
+    TestedStep::Edit(TestedEdit::Insert(50, Event::Tick), Ok(1)),
+    TestedStep::Ran(Question::Text(8), 0, 50),
+    TestedStep::Ran(Question::Text(52), 4, 52),
+    TestedStep::Ran(Question::Text(100), 48, 100),
 ];
 
 #[test]
@@ -125,7 +128,7 @@ fn early_questions_keep_the_text(rt: HostRuntime) -> Result<(), Fail> {
 /// States at the multiples of 40,000 are kept by turn 10,000,000: from 256 times 10,000 on the
 /// stride is 20,000, and from 256 times 20,000 on 40,000. An engine that ran turns in secret,
 /// without the meter, would not end within a test's time.
-const FAR: [Step; 1] = [Step::Ran(Question::Regs(10_000_000), 10_000_000, 10_000_000)];
+const FAR: [TestedStep; 1] = [TestedStep::Ran(Question::Regs(10_000_000), 10_000_000, 10_000_000)];
 
 fn assert_known(rt: &impl Abort, alloc: Global, engine: &mut Engine) -> Result<(), Fail> {
     for number in 0..100_000u32 {

@@ -32,16 +32,16 @@ pub(crate) fn engine_of(alloc: Global, words: &[u16], stride: u32) -> Result<Eng
 
 /// A step of a test.
 #[derive(Clone, Copy)]
-pub(crate) enum Step {
+pub(crate) enum TestedStep {
     /// How many turns are run for this question, and the known turn after it.
     Ran(Question, u64, u32),
     /// What this edit is answered.
-    Edit(Edit, Result<u32, Fault>),
+    Edit(TestedEdit, Result<u32, Fault>),
 }
 
 /// An edit of the past. The number of an event that it puts in is its answer, else 0.
 #[derive(Clone, Copy)]
-pub(crate) enum Edit {
+pub(crate) enum TestedEdit {
     /// Makes the core word at this address this word.
     Patch(u32, u16),
     /// Makes the word of this number, on drive 0, this word.
@@ -67,12 +67,12 @@ pub(crate) fn follow(
     alloc: Global,
     engine: &mut Engine,
     stride: u32,
-    steps: &[Step],
+    steps: &[TestedStep],
 ) -> Result<(), Fail> {
     let mut last = stride;
     for (number, step) in steps.iter().enumerate() {
         match *step {
-            Step::Ran(question, ran, known) => {
+            TestedStep::Ran(question, ran, known) => {
                 let answer = ask(engine, alloc, question)?;
                 assert_eq!(rt;
                     (answer.ran, answer.known),
@@ -81,7 +81,7 @@ pub(crate) fn follow(
                 );
                 last = answer.stride;
             }
-            Step::Edit(edit, want) => {
+            TestedStep::Edit(edit, want) => {
                 assert_eq!(rt; make(engine, alloc, edit), want, "at step {number}");
             }
         }
@@ -100,16 +100,16 @@ pub(crate) fn ask(
 }
 
 /// Makes this edit, and gives what it is answered.
-pub(crate) fn make(engine: &mut Engine, alloc: Global, edit: Edit) -> Result<u32, Fault> {
+pub(crate) fn make(engine: &mut Engine, alloc: Global, edit: TestedEdit) -> Result<u32, Fault> {
     match edit {
-        Edit::Patch(address, word) => engine.set_core(address, word)?,
-        Edit::Disk(number, word) => engine.set_disk(0, number, word)?,
-        Edit::EightDrives => engine.use_eight_drives()?,
-        Edit::Insert(turn, event) => return engine.insert(turn, event),
-        Edit::Alter(number, turn, event) => engine.alter(number, turn, event)?,
-        Edit::Drop(number) => engine.drop_event(number)?,
-        Edit::Tape(bytes) => engine.set_tape(vec![in alloc; 0; bytes]?)?,
-        Edit::Delay(line, delay) => engine.set_delay(line, delay)?,
+        TestedEdit::Patch(address, word) => engine.set_core(address, word)?,
+        TestedEdit::Disk(number, word) => engine.set_disk(0, number, word)?,
+        TestedEdit::EightDrives => engine.use_eight_drives()?,
+        TestedEdit::Insert(turn, event) => return engine.insert(turn, event),
+        TestedEdit::Alter(number, turn, event) => engine.alter(number, turn, event)?,
+        TestedEdit::Drop(number) => engine.drop_event(number)?,
+        TestedEdit::Tape(bytes) => engine.set_tape(vec![in alloc; 0; bytes]?)?,
+        TestedEdit::Delay(line, delay) => engine.set_delay(line, delay)?,
     }
     Ok(0)
 }
