@@ -116,7 +116,7 @@ pub fn instruct_noting<S: Store, D: Store>(
     run_instruction(processor, bus, latch, noted);
 }
 
-/// The same.
+/// The same, told by the rows of its course.
 fn run_instruction<S: Store, D: Store>(
     processor: &mut Processor,
     bus: &mut Bus<S, D>,
