@@ -1,10 +1,10 @@
 -- What an instruction makes, by what was noted of its plan and of its trap.
-use Rattle.std.proofs.Common.{◌≡◌, ◌∙◌, ℕ, Bool, true, false, List, [], ◌∷◌, Result, Ok, Err, flat_map, refl, ap, sym, subst}
+use Rattle.std.proofs.Common.{◌≡◌, ◌∙◌, ℕ, Bool, true, false, [], ◌∷◌, Ok, Err, flat_map, ap, sym, subst}
 use Rattle.pdp_word.specs.declared.codes.Codes.{Codes}
 use Rattle.pdp_action.specs.Action.{action_of}
 use Rattle.pdp_action.specs.declared.trap.Trap.{Trap}
 use Rattle.pdp_decode.specs.declared.instruction.Instr.{Instr}
-use Rattle.pdp_operand.specs.Phases.Phase.{Phase, State, inner_of, run, step, stop_at}
+use Rattle.pdp_operand.specs.Phases.Phase.{State, inner_of, run, step, stop_at}
 use Rattle.pdp_operand.specs.Phases.Plan.{phases_of}
 use Rattle.pdp_instruction.specs.Handbook.Action.{plan_of}
 use Rattle.pdp_instruction.specs.Handbook.Instruction.{fetch_instruction, note_trace}
@@ -13,13 +13,12 @@ use Rattle.pdp_made.specs.Cells.{DataCell}
 use Rattle.pdp_made.specs.CourseRows.{Along, Finished, Saving, after_trap_rows, codes_at, instruction_course_rows, instruction_rows, sequence_rows, trap_course_rows}
 use Rattle.pdp_made.specs.InstructionRows.{rows_of_action}
 use Rattle.pdp_made.specs.OperandRows.{keeps_data}
-use Rattle.pdp_made.specs.PhaseRows.{made_through, of_itself, phases_in}
+use Rattle.pdp_made.specs.PhaseRows.{made_through, of_itself}
 use Rattle.pdp_made.proofs.ActionRows.{rows_phases}
-use Rattle.pdp_moves.specs.CourseMoves.{EndAt, IsNoted, is_trap, saved_if, sources_of_act, sources_of_plan, sources_of_sequence, sources_of_trap}
+use Rattle.pdp_moves.specs.CourseMoves.{EndAt, IsNoted, saved_if, sources_of_act, sources_of_plan, sources_of_sequence, sources_of_trap}
 use Rattle.pdp_moves.specs.Moves.{sources_before}
 use Rattle.pdp_moves.specs.PlanRows.{moves_noted}
 use Rattle.pdp_moves.specs.declared.noted_act.NotedAct.{NotedAct}
-use Rattle.pdp_moves.specs.declared.noted_plan.NotedPlan.{NotedPlan}
 use Rattle.pdp_moves.proofs.CourseMoves.{dropped, finished, goes_on, is_caught, keeps_caught, keeps_on, kept, no_step, noted_as, saves, unchanged}
 
 -- no sequence follows

@@ -1,5 +1,4 @@
-use Rattle.std.proofs.Common.{◌∙◌, None, ap, arith, subst}
-use Rattle.pdp_word.specs.declared.size.Size.TheVariants.{Word}
+use Rattle.std.proofs.Common.{◌∙◌, None, ap}
 use Rattle.pdp_operand.specs.Phases.Phase.{state_of}
 use Rattle.pdp_made.specs.InstructionRows.{rows_of_action}
 use Rattle.pdp_made.specs.PhaseRows.{made_through}
