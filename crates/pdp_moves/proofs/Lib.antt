@@ -7,3 +7,6 @@ pub mod RegisterMoves
 pub mod WriteMoves
 pub mod PlanMoves
 pub mod ActionSteps
+pub mod CourseMoves
+pub mod SequenceMoves
+pub mod ActMoves

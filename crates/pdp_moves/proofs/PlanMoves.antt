@@ -1,5 +1,5 @@
 -- What steps that are run one after the other make, by the moves of each.
-use Rattle.std.proofs.Common.{◌≡◌, ◌∙◌, ◌<◌, ◌+◌, ℕ, List, [], ◌∷◌, ◌++◌, Ok, Err, length, map, take, drop, get_or, flat_map, refl, ap, sym, subst, append-nil, length-append, arith}
+use Rattle.std.proofs.Common.{◌≡◌, ◌∙◌, ◌<◌, ◌+◌, ℕ, List, [], ◌∷◌, ◌++◌, Option, Ok, Err, length, map, take, drop, get_or, flat_map, refl, ap, sym, subst, append-nil, length-append, arith}
 use Rattle.std.proofs.lemmas.Grind.{flat_map-append}
 use Rattle.std.proofs.lemmas.List.{drop_more, take_more}
 use Rattle.pdp_word.specs.Size.{span}
@@ -10,7 +10,6 @@ use Rattle.pdp_operand.specs.declared.place.Fill.TheVariants as fill
 use Rattle.pdp_operand.specs.Phases.Phase.{Phase, State, Stop, run, step}
 use Rattle.pdp_made.specs.Cells.{DataCell}
 use Rattle.pdp_made.specs.PhaseRows.{PhaseRow, made_next, made_through}
-use Rattle.pdp_made.specs.ReferenceRows.{of_nothing}
 use Rattle.pdp_steps.specs.Contract.{AreReady, CanRunAt, CanRunInOrder}
 use Rattle.pdp_steps.specs.Steps.{CanRun, phase_of, size_after}
 use Rattle.pdp_steps.specs.declared.operand_step.OperandStep.TheVariants as operand
@@ -19,12 +18,14 @@ use Rattle.pdp_steps.specs.declared.step_latch.StepLatch.{StepLatch}
 use Rattle.pdp_steps.specs.declared.step.Microstep.{Microstep}
 use Rattle.pdp_moves.specs.CellNames.{named_moves}
 use Rattle.pdp_moves.specs.Moves.{AreMoves, Move, sources_before, sources_in}
-use Rattle.pdp_moves.specs.PlanRows.{moves_noted, row_of_step, rows_of_steps, steps_noted}
+use Rattle.pdp_moves.specs.Built.{halves_written}
+use Rattle.pdp_moves.specs.PlanRows.{moves_noted, row_of_step, rows_from, rows_of_steps, steps_noted, written_at}
 use Rattle.pdp_moves.specs.StepRows.{made_of_step}
 use Rattle.pdp_moves.specs.declared.noted_step.NotedStep.{NotedStep}
+use Rattle.pdp_moves.specs.declared.written_word.WrittenWord.{WrittenWord}
 
 -- Lists of lists
-each_itself : (xs : List DataCell) → flat_map (λ c. c ∷ []) xs ≡ xs
+pub each_itself : (xs : List DataCell) → flat_map (λ c. c ∷ []) xs ≡ xs
 each_itself [] = refl
 each_itself (x ∷ xs) = ap (λ rest. x ∷ rest) (each_itself xs)
 
@@ -32,7 +33,7 @@ flat_flat : (f g : DataCell → List DataCell) (xs : List DataCell) → flat_map
 flat_flat f g [] = refl
 flat_flat f g (x ∷ xs) = flat_map-append f (g x) (flat_map g xs) ∙ ap (λ rest. flat_map f (g x) ++ rest) (flat_flat f g xs)
 
-flat_same : (f g : DataCell → List DataCell) → ((x : DataCell) → f x ≡ g x) → (xs : List DataCell) → flat_map f xs ≡ flat_map g xs
+pub flat_same : (f g : DataCell → List DataCell) → ((x : DataCell) → f x ≡ g x) → (xs : List DataCell) → flat_map f xs ≡ flat_map g xs
 flat_same f g same [] = refl
 flat_same f g same (x ∷ xs) = ap (λ first. first ++ flat_map f xs) (same x) ∙ ap (λ rest. g x ++ rest) (flat_same f g same xs)
 
@@ -69,32 +70,33 @@ unfolding made_through
 ends noted rows saved s is c = rw is (append-nil (sources_before noted c))
 
 -- The run of a phase and of those after it
-run_more : (p : Phase) (ps : List Phase) (s t : State) → step p s ≡ Ok t → run (p ∷ ps) s ≡ run ps t
+pub run_more : (p : Phase) (ps : List Phase) (s t : State) → step p s ≡ Ok t → run (p ∷ ps) s ≡ run ps t
 unfolding run
 run_more p ps s t is = rw is refl
 
-run_stopped : (p : Phase) (ps : List Phase) (s : State) (stop : Stop) → step p s ≡ Err stop → run (p ∷ ps) s ≡ Err stop
+pub run_stopped : (p : Phase) (ps : List Phase) (s : State) (stop : Stop) → step p s ≡ Err stop → run (p ∷ ps) s ≡ Err stop
 unfolding run
 run_stopped p ps s stop is = rw is refl
 
-run_done : (ps : List Phase) (s : State) → ps ≡ [] → run ps s ≡ Ok s
+pub run_done : (ps : List Phase) (s : State) → ps ≡ [] → run ps s ≡ Ok s
 unfolding run
 run_done ps s is = rw is refl
 
 -- How far the steps have been run
-pub record IsAlong (steps : List Microstep) (n : ℕ) (noted : List NotedStep) (start now : State) (result : ℕ) : Type 0 where
+pub record IsAlong (saving : Option ℕ) (steps : List Microstep) (n : ℕ) (noted : List NotedStep) (start now : State) (result : ℕ) : Type 0 where
   pub same_run : run (map phase_of steps) start ≡ run (map phase_of (drop n steps)) now
   pub ready : AreReady (drop n steps) result
   pub told : (saved : Codes) (c : DataCell)
-      → made_through (rows_of_steps steps) saved start c ≡ flat_map (sources_before (moves_noted noted)) (made_through (rows_of_steps (drop n steps)) saved now c)
+      → made_through (rows_of_steps saving steps) saved start c ≡ flat_map (sources_before (moves_noted noted)) (made_through (rows_from saving n (drop n steps)) saved now c)
   pub names : steps_noted noted ≡ take n steps
   pub count : length noted ≡ n
 
-pub begins : (steps : List Microstep) (start : State) (result : ℕ) (noted : List NotedStep) → noted ≡ [] → AreReady steps result → IsAlong steps 0 noted start start result
-begins steps start result noted is ready = rw is (record {
+pub begins : (saving : Option ℕ) (steps : List Microstep) (start : State) (result : ℕ) (noted : List NotedStep) → noted ≡ [] → AreReady steps result
+    → IsAlong saving steps 0 noted start start result
+begins saving steps start result noted is ready = rw is (record {
   same_run = refl;
   ready = ready;
-  told = λ saved c. sym (each_itself (made_through (rows_of_steps steps) saved start c));
+  told = λ saved c. sym (each_itself (made_through (rows_of_steps saving steps) saved start c));
   names = refl;
   count = refl;
 })
@@ -134,20 +136,21 @@ runs_at xs n d latch below ready =
     let in_order = subst (λ ys. CanRunInOrder ys ready.size) (drop_more xs n d below) ready.in_order in
     runs (get_or xs n d) latch ready.size ready.fits in_order.0
 
-module _ (steps : List Microstep) (n : ℕ) (d : Microstep) (noted : List NotedStep) (start now : State) (result : ℕ) (below : n < length steps)
-    (along : IsAlong steps n noted start now result) where
-  pub goes : (t : State) (new : ℕ) (one : NotedStep) → step (phase_of (get_or steps n d)) now ≡ Ok t
+module _ (saving : Option ℕ) (steps : List Microstep) (n : ℕ) (d : Microstep) (noted : List NotedStep) (start now : State) (result : ℕ) (below : n < length steps)
+    (along : IsAlong saving steps n noted start now result) where
+  pub goes : (t : State) (new : ℕ) (one : NotedStep) (written : WrittenWord) → written ≡ written_at saving n → step (phase_of (get_or steps n d)) now ≡ Ok t
       → ((size : Size) → result < span size → new < span (size_after (get_or steps n d) size))
-      → AreMoves (made_of_step of_nothing (get_or steps n d) now) (named_moves one.moves.items) → one.step ≡ get_or steps n d
-      → IsAlong steps (n + 1) (noted ++ one ∷ []) start t new
-  goes t new one is fits are name = record {
+      → AreMoves (made_of_step (halves_written written) (get_or steps n d) now) (named_moves one.moves.items) → one.step ≡ get_or steps n d
+      → IsAlong saving steps (n + 1) (noted ++ one ∷ []) start t new
+  goes t new one written is_written is fits are name = record {
     same_run = along.same_run ∙ ap (λ ys. run (map phase_of ys) now) (drop_more steps n d below)
         ∙ run_more (phase_of (get_or steps n d)) (map phase_of (drop (n + 1) steps)) now t is;
     ready = ready_more steps n d result new below along.ready fits;
     told = λ saved c. along.told saved c
-        ∙ ap (λ ys. flat_map (sources_before (moves_noted noted)) (made_through (rows_of_steps ys) saved now c)) (drop_more steps n d below)
-        ∙ goes_on (moves_noted noted) (named_moves one.moves.items) (row_of_step of_nothing (get_or steps n d)) (rows_of_steps (drop (n + 1) steps)) saved now t is are c
-        ∙ ap (λ moves. flat_map (sources_before moves) (made_through (rows_of_steps (drop (n + 1) steps)) saved t c)) (sym (moves_more noted one));
+        ∙ ap (λ ys. flat_map (sources_before (moves_noted noted)) (made_through (rows_from saving n ys) saved now c)) (drop_more steps n d below)
+        ∙ goes_on (moves_noted noted) (named_moves one.moves.items) (row_of_step (halves_written (written_at saving n)) (get_or steps n d)) (rows_from saving (n + 1) (drop (n + 1) steps)) saved now t is
+        (subst (λ w. AreMoves (made_of_step (halves_written w) (get_or steps n d) now) (named_moves one.moves.items)) is_written are) c
+        ∙ ap (λ moves. flat_map (sources_before moves) (made_through (rows_from saving (n + 1) (drop (n + 1) steps)) saved t c)) (sym (moves_more noted one));
     names = names_more noted one ∙ ap (λ rest. steps_noted noted ++ rest ∷ []) name ∙ ap (λ xs. xs ++ get_or steps n d ∷ []) along.names
         ∙ sym (take_more steps n d below);
     count = count_more noted one ∙ ap (λ k. k + 1) along.count;
@@ -161,14 +164,15 @@ module _ (steps : List Microstep) (n : ℕ) (d : Microstep) (noted : List NotedS
       ∙ run_stopped (phase_of (get_or steps n d)) (map phase_of (drop (n + 1) steps)) now stop is
 
   pub halts_told : (stop : Stop) → step (phase_of (get_or steps n d)) now ≡ Err stop → (saved : Codes) (c : DataCell)
-      → sources_before (moves_noted noted) c ≡ made_through (rows_of_steps steps) saved start c
+      → sources_before (moves_noted noted) c ≡ made_through (rows_of_steps saving steps) saved start c
   halts_told stop is saved c = sym (along.told saved c
-      ∙ ap (λ ys. flat_map (sources_before (moves_noted noted)) (made_through (rows_of_steps ys) saved now c)) (drop_more steps n d below)
-      ∙ stops (moves_noted noted) (row_of_step of_nothing (get_or steps n d)) (rows_of_steps (drop (n + 1) steps)) saved now stop is c)
+      ∙ ap (λ ys. flat_map (sources_before (moves_noted noted)) (made_through (rows_from saving n ys) saved now c)) (drop_more steps n d below)
+      ∙ stops (moves_noted noted) (row_of_step (halves_written (written_at saving n)) (get_or steps n d)) (rows_from saving (n + 1) (drop (n + 1) steps)) saved now stop is c)
 
-module _ (steps : List Microstep) (n : ℕ) (noted : List NotedStep) (start now : State) (result : ℕ) (done : drop n steps ≡ []) (along : IsAlong steps n noted start now result) where
+module _ (saving : Option ℕ) (steps : List Microstep) (n : ℕ) (noted : List NotedStep) (start now : State) (result : ℕ) (done : drop n steps ≡ [])
+    (along : IsAlong saving steps n noted start now result) where
   pub finishes : run (map phase_of steps) start ≡ Ok now
   finishes = along.same_run ∙ run_done (map phase_of (drop n steps)) now (ap (map phase_of) done)
 
-  pub finishes_told : (saved : Codes) (c : DataCell) → sources_before (moves_noted noted) c ≡ made_through (rows_of_steps steps) saved start c
-  finishes_told saved c = sym (along.told saved c ∙ ends (moves_noted noted) (rows_of_steps (drop n steps)) saved now (ap rows_of_steps done) c)
+  pub finishes_told : (saved : Codes) (c : DataCell) → sources_before (moves_noted noted) c ≡ made_through (rows_of_steps saving steps) saved start c
+  finishes_told saved c = sym (along.told saved c ∙ ends (moves_noted noted) (rows_from saving n (drop n steps)) saved now (ap (rows_from saving n) done) c)

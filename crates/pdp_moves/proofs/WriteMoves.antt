@@ -1,10 +1,10 @@
 -- The moves of writes.
-use Rattle.std.proofs.Common.{◌≡◌, ◌∙◌, ℕ, ◌==◌, false, List, [], ◌∷◌, Result, Ok, Err, length, refl, append-nil}
+use Rattle.std.proofs.Common.{◌≡◌, ◌∙◌, ℕ, ◌==◌, Bool, true, false, List, [], ◌∷◌, Result, Ok, Err, length, refl, append-nil}
 use Rattle.pdp_word.specs.declared.size.Size.{Size}
 use Rattle.pdp_kt11.specs.declared.mode.Mode.{Mode}
 use Rattle.pdp_kt11.specs.declared.place.Abort.{Abort}
-use Rattle.pdp_console.specs.declared.kl.KlRegister.TheVariants.{KeyboardStatus, KeyboardBuffer, PrinterStatus, PrinterBuffer}
-use Rattle.pdp_tape.specs.declared.pc11.Pc11Register.TheVariants.{ReaderStatus, ReaderBuffer, PunchStatus, PunchBuffer}
+use Rattle.pdp_console.specs.declared.kl.KlRegister.TheVariants.{PrinterBuffer}
+use Rattle.pdp_tape.specs.declared.pc11.Pc11Register.TheVariants.{ReaderStatus, PunchBuffer}
 use Rattle.pdp_io_page.specs.declared.register.Register.{Register}
 use Rattle.pdp_io_page.specs.declared.register.Register.TheVariants as register
 use Rattle.pdp_unibus.specs.Handbook.BusWorld.{BusWorld}
@@ -82,74 +82,29 @@ module _ (size : Size) (physical : ℕ) (from : Halves) where
   still : (slave : Slave) → ((c : DataCell) → c ∷ [] ≡ changed slave c) → AreMoves (changed slave) []
   still slave same = alike of_itself (changed slave) [] nothing_moves same
 
+  abbrev is_quiet : Register → Bool
+  is_quiet register.ProgramStatus = false
+  is_quiet (register.Console PrinterBuffer) = false
+  is_quiet (register.PaperTape PunchBuffer) = false
+  is_quiet (register.PaperTape ReaderStatus) = false
+  is_quiet r = true
+
+  quiet : (r : Register) → is_quiet r ≡ true → (c : DataCell) → c ∷ [] ≡ changed (Device r) c
+  quiet register.ProgramStatus is c = absurd (cc is)
+  quiet (register.Console PrinterBuffer) is c = absurd (cc is)
+  quiet (register.PaperTape PunchBuffer) is c = absurd (cc is)
+  quiet (register.PaperTape ReaderStatus) is c = absurd (cc is)
+  quiet r is (CoreByte k half) = refl
+  quiet r is (CodeNow code) = refl
+  quiet r is (Buffer buffer) = refl
+  quiet r is c = refl
+
   devices : (r : Register) → AreMoves (changed (Device r)) (slave_moves size physical (Device r) from)
   devices register.ProgramStatus = status
   devices (register.Console PrinterBuffer) = printer
   devices (register.PaperTape PunchBuffer) = punch
   devices (register.PaperTape ReaderStatus) = reader
-  devices (register.Console KeyboardStatus) = still (Device (register.Console KeyboardStatus)) same
-    where
-      same : (c : DataCell) → c ∷ [] ≡ changed (Device (register.Console KeyboardStatus)) c
-      same (CoreByte k half) = refl
-      same (CodeNow code) = refl
-      same (Buffer buffer) = refl
-      same c = refl
-  devices (register.Console KeyboardBuffer) = still (Device (register.Console KeyboardBuffer)) same
-    where
-      same : (c : DataCell) → c ∷ [] ≡ changed (Device (register.Console KeyboardBuffer)) c
-      same (CoreByte k half) = refl
-      same (CodeNow code) = refl
-      same (Buffer buffer) = refl
-      same c = refl
-  devices (register.Console PrinterStatus) = still (Device (register.Console PrinterStatus)) same
-    where
-      same : (c : DataCell) → c ∷ [] ≡ changed (Device (register.Console PrinterStatus)) c
-      same (CoreByte k half) = refl
-      same (CodeNow code) = refl
-      same (Buffer buffer) = refl
-      same c = refl
-  devices (register.PaperTape ReaderBuffer) = still (Device (register.PaperTape ReaderBuffer)) same
-    where
-      same : (c : DataCell) → c ∷ [] ≡ changed (Device (register.PaperTape ReaderBuffer)) c
-      same (CoreByte k half) = refl
-      same (CodeNow code) = refl
-      same (Buffer buffer) = refl
-      same c = refl
-  devices (register.PaperTape PunchStatus) = still (Device (register.PaperTape PunchStatus)) same
-    where
-      same : (c : DataCell) → c ∷ [] ≡ changed (Device (register.PaperTape PunchStatus)) c
-      same (CoreByte k half) = refl
-      same (CodeNow code) = refl
-      same (Buffer buffer) = refl
-      same c = refl
-  devices (register.Disk r) = still (Device (register.Disk r)) same
-    where
-      same : (c : DataCell) → c ∷ [] ≡ changed (Device (register.Disk r)) c
-      same (CoreByte k half) = refl
-      same (CodeNow code) = refl
-      same (Buffer buffer) = refl
-      same c = refl
-  devices register.Clock = still (Device register.Clock) same
-    where
-      same : (c : DataCell) → c ∷ [] ≡ changed (Device register.Clock) c
-      same (CoreByte k half) = refl
-      same (CodeNow code) = refl
-      same (Buffer buffer) = refl
-      same c = refl
-  devices register.Switches = still (Device register.Switches) same
-    where
-      same : (c : DataCell) → c ∷ [] ≡ changed (Device register.Switches) c
-      same (CoreByte k half) = refl
-      same (CodeNow code) = refl
-      same (Buffer buffer) = refl
-      same c = refl
-  devices (register.Mapping r) = still (Device (register.Mapping r)) same
-    where
-      same : (c : DataCell) → c ∷ [] ≡ changed (Device (register.Mapping r)) c
-      same (CoreByte k half) = refl
-      same (CodeNow code) = refl
-      same (Buffer buffer) = refl
-      same c = refl
+  devices r = still (Device r) (quiet r refl)
 
   slaves : (slave : Slave) → AreMoves (changed slave) (slave_moves size physical slave from)
   slaves (Core k) = core k

@@ -7,3 +7,5 @@ pub mod StepRows
 pub mod Built
 -- Steps that are run one after the other.
 pub mod PlanRows
+-- Plans that follow one another, as those of an instruction and of its trap.
+pub mod CourseMoves

@@ -1,11 +1,12 @@
 //! Moves that are noted of instructions.
 
 use crate::cell_name::{CellName, HalfName};
-use crate::noted_step::{NotedSteps, carry_out_noting};
+use crate::noted_act::{NotedAct, instruct_noting};
+use crate::noted_step::NotedSteps;
 use pdp_icache::Lines;
 use pdp_io_page::Delays;
-use pdp_operand::{Processor, Trap};
-use pdp_steps::{Microstep, StepLatch, run_step};
+use pdp_operand::Processor;
+use pdp_steps::StepLatch;
 use pdp_store::Flat;
 use pdp_unibus::Bus;
 use pdp_word::NoMemory;
@@ -25,11 +26,11 @@ fn bus_with(alloc: Global, instruction: u16, second: u16) -> Result<TestBus, NoM
 }
 
 /// Runs the instruction at PC, and notes its moves.
-fn run(bus: &mut TestBus, noted: &mut NotedSteps) -> Result<(), Trap> {
+fn run(bus: &mut TestBus, noted: &mut NotedAct) {
     let mut processor = Processor::at_power_up(0o1000);
+    processor.words = [0, 0, 0, 0, 0, 0, 0o700, 0];
     let mut latch = StepLatch::empty();
-    run_step(&mut processor, bus, &mut latch, Microstep::Fetch)?;
-    carry_out_noting(&mut processor, bus, &mut latch, noted)
+    instruct_noting(&mut processor, bus, &mut latch, noted);
 }
 
 /// How many cells the step of this number moves.
@@ -54,16 +55,16 @@ fn sources_of(noted: &NotedSteps, number: usize, cell: CellName) -> Option<usize
 fn sums_are_noted(rt: HostRuntime) -> Result<(), NoMemory> {
     // ADD R0,R1
     let mut bus = bus_with(rt.alloc(), 0o060001, 0)?;
-    let mut noted = NotedSteps::new();
-    assert!(rt; run(&mut bus, &mut noted).is_ok());
-    assert_eq!(rt; noted.len(), 8);
+    let mut noted = NotedAct::empty();
+    run(&mut bus, &mut noted);
+    assert_eq!(rt; noted.plan.steps.len(), 8);
     // both halves of the sum, and four codes
-    assert_eq!(rt; moved(&noted, 5), 6);
+    assert_eq!(rt; moved(&noted.plan.steps, 5), 6);
     let high = CellName::RegisterByte {
         place: 1,
         half: HalfName::High,
     };
-    assert_eq!(rt; sources_of(&noted, 6, high), Some(1));
+    assert_eq!(rt; sources_of(&noted.plan.steps, 6, high), Some(1));
     Ok(())
 }
 
@@ -71,14 +72,32 @@ fn sums_are_noted(rt: HostRuntime) -> Result<(), NoMemory> {
 fn odd_bytes_are_noted(rt: HostRuntime) -> Result<(), NoMemory> {
     // MOVB R0,@#1101: one half of a word moves
     let mut bus = bus_with(rt.alloc(), 0o110037, 0o1101)?;
-    let mut noted = NotedSteps::new();
-    assert!(rt; run(&mut bus, &mut noted).is_ok());
-    assert_eq!(rt; noted.len(), 6);
-    assert_eq!(rt; moved(&noted, 4), 1);
+    let mut noted = NotedAct::empty();
+    run(&mut bus, &mut noted);
+    assert_eq!(rt; noted.plan.steps.len(), 6);
+    assert_eq!(rt; moved(&noted.plan.steps, 4), 1);
     let byte = CellName::CoreByte {
         word: 0o440,
         half: HalfName::High,
     };
-    assert_eq!(rt; sources_of(&noted, 4, byte), Some(2));
+    assert_eq!(rt; sources_of(&noted.plan.steps, 4, byte), Some(2));
+    Ok(())
+}
+
+#[test]
+fn traps_are_noted(rt: HostRuntime) -> Result<(), NoMemory> {
+    // TST @#1: the operand is found, but not read
+    let mut bus = bus_with(rt.alloc(), 0o005737, 1)?;
+    let mut noted = NotedAct::empty();
+    run(&mut bus, &mut noted);
+    assert!(rt; noted.plan.is_lost);
+    assert_eq!(rt; noted.sequence.first.steps.len(), 7);
+    // the old program status word, with nothing in its high half
+    assert_eq!(rt; moved(&noted.sequence.first.steps, 3), 2);
+    let high = CellName::CoreByte {
+        word: 0o337,
+        half: HalfName::High,
+    };
+    assert_eq!(rt; sources_of(&noted.sequence.first.steps, 3, high), Some(0));
     Ok(())
 }

@@ -11,6 +11,9 @@
 //!   of each are noted, and taken backwards they are what `made_through` of pdp_made says
 //!   (`note_steps`), also where a step can't go on. The same holds of the steps of the instruction
 //!   that was fetched and of the rows of its action (`carry_out_noting`).
+//! - A whole instruction with its fetch and its trap, run by steps, is the instruction. Its moves,
+//!   taken backwards, are what `made_along` of pdp_made says (`instruct_noting`). The same holds of
+//!   the sequence of a trap or an interrupt (`interrupt_noting`).
 //!
 //! That the named sources are enough is a law of pdp_made. Nothing here takes memory.
 #![tactic(auto)]
@@ -25,6 +28,9 @@ mod extended_moves;
 #[cfg(test)]
 mod instruction_moves;
 mod jump_moves;
+mod noted_act;
+mod noted_plan;
+mod noted_sequence;
 mod noted_step;
 mod operand_moves;
 mod operands_taken;
@@ -36,7 +42,10 @@ mod written_word;
 
 pub use cell_move::{CellMove, MOST_MOVES, StepMoves};
 pub use cell_name::{BufferName, CellName, CodeName, HalfName};
-pub use noted_step::{NotedStep, NotedSteps, carry_out_noting, note_steps};
+pub use noted_act::{NotedAct, instruct_noting, interrupt_noting};
+pub use noted_plan::{NotedPlan, carry_out_noting, note_plan};
+pub use noted_sequence::NotedSequence;
+pub use noted_step::{NotedStep, NotedSteps, note_steps};
 pub use sources::{MOST_SOURCES, Sources};
 pub use step_moves::moves_of_step;
 pub use written_word::WrittenWord;

@@ -1,0 +1,2 @@
+-- What is due, by its name in the code.
+pub mod Acts
