@@ -3,15 +3,16 @@ use Rattle.std.proofs.Common.{ℕ, List, Option, Bool, true, false, Result, Ok, 
 use Rattle.pdp_script.specs.declared.faults.Fault.{Fault}
 use Rattle.pdp_script.specs.declared.faults.Fault.TheVariants.{NoMemory, OutsideCore, OddAddress, OutsideDisk, NoSuchEvent, ScriptFull, TurnTooLarge, CountOutOfRange, NoSuchPatch, BadLine, LineTooLong, Input, Output, BadImage, BadSetup, NoSuchDrive}
 use Rattle.pdp_script.specs.Refusal.{result_map}
-use Rattle.pdp_replay.specs.Past.{Past, past_without_events, starting_past}
+use Rattle.pdp_replay.specs.Past.{past_without_events, starting_past}
 use Rattle.pdp_replay.specs.Past.Setup.{SetupData, given_setup, setup_checked, has_good_images, has_good_numbers}
 use Rattle.pdp_session.specs.Language.{Language}
+use Rattle.pdp_session.specs.Pasts.{Pasts, pasts_begun}
 use Rattle.pdp_session.specs.Session.{Ends, Session, SessionEnds}
 use Rattle.pdp_session.specs.Streams.{StreamsData}
 use Rattle.pdp_program.specs.Exit.{CanEnd}
 use Rattle.pdp_program.proofs.program.answer_lines.Goals as goal
 
-ends_good : (l : Language) (p : Past) (read out : List ℕ) (rest : Option (List ℕ)) (r : Result (Unit {0}) Fault) → SessionEnds l p read out rest r → CanEnd r
+ends_good : (l : Language) (p : Pasts) (read out : List ℕ) (rest : Option (List ℕ)) (r : Result (Unit {0}) Fault) → SessionEnds l p read out rest r → CanEnd r
 ends_good l p read out rest (Ok x) h = tt
 ends_good l p read out rest (Err NoMemory) h = tt
 ends_good l p read out rest (Err Input) h = tt
@@ -32,7 +33,7 @@ ends_good l p read out rest (Err NoSuchDrive) h = absurd h
 
 ends_started : (l : Language) (b c : Bool) (s : SetupData) (read out : List ℕ) (rest : Option (List ℕ)) (r : Result (Unit {0}) Fault)
     → Ends l (result_map past_without_events (if b then if c then Ok s else Err BadImage else Err BadSetup)) read out rest r → CanEnd r
-ends_started l true true s read out rest r h = ends_good l (past_without_events s) read out rest r h
+ends_started l true true s read out rest r h = ends_good l (pasts_begun (past_without_events s)) read out rest r h
 ends_started l true false s read out rest r h = rw h.0 tt
 ends_started l false c s read out rest r h = rw h.0 tt
 
