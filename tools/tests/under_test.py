@@ -1,8 +1,8 @@
 """What is tested. The environment names it: TESTED_PDP11, TESTED_SEARCH and TESTED_DISASSEMBLE are
 the programs, TESTED_MODULES is the folder of the WebAssembly modules, TESTED_PAGE the address of
-the page, TESTED_SHOTS the folder that gets screenshots, and TESTED_SLOW how many times slower the
-page in Chromium is made. Otherwise tools/program finds a program, release/ has the modules, and the
-page is packed of them."""
+the page, TESTED_SHOTS the folder that gets screenshots, TESTED_SLOW how many times slower the page
+in Chromium is made, and TESTED_CLICKS how many random clicks there are. Otherwise tools/program
+finds a program, release/ has the modules, and the page is packed of them."""
 import atexit
 import functools
 import os
@@ -68,6 +68,10 @@ def page() -> Optional[str]:
 
 def slower() -> float:
     return float(named("slow") or 1)
+
+
+def clicks() -> int:
+    return int(named("clicks") or 200)
 
 
 def shots() -> Optional[Path]:

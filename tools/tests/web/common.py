@@ -187,6 +187,13 @@ class PageCase(InChromium):
     def tearDown(self) -> None:
         self.assertEqual(self.browser.messages, [])
 
+    def open_example(self, key: str) -> None:
+        self.browser.value("document.querySelector('#reply').textContent = ''")
+        self.browser.click("#examples-menu summary")
+        self.browser.click(f"[data-example='{key}']")
+        self.wait_text("#reply", "Opened: ")
+        self.wait_still()
+
     def folder(self) -> Path:
         made = tempfile.TemporaryDirectory()
         self.addCleanup(made.cleanup)

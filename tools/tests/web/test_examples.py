@@ -36,13 +36,6 @@ class Examples(PageCase):
         if packed_page().startswith("http"):
             self.skipTest("the page isn't packed")
 
-    def open_example(self, key: str) -> None:
-        self.browser.value("document.querySelector('#reply').textContent = ''")
-        self.browser.click("#examples-menu summary")
-        self.browser.click(f"[data-example='{key}']")
-        self.wait_text("#reply", "Opened: ")
-        self.wait_still()
-
     def is_as(self, lines: list[str], *words: str) -> None:
         """The page replies as the program does after these lines."""
         replies = replies_of([*lines, *ASKED], *words)[-len(ASKED) :]
