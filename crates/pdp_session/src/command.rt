@@ -1,5 +1,6 @@
 ghost use Rattle.std.specs.Prelude.{◌≡◌};
-ghost use Rattle.pdp_session.specs.Command.{command_leaves, command_reply, wants_memory};
+ghost use Rattle.pdp_session.specs.Command.{command_leaves, command_reply};
+ghost use Rattle.pdp_session.specs.Edit.{wants_memory};
 
 use crate::edit::{Edit, edit_reply, run_edit};
 use crate::reply::Reply;

@@ -1,12 +1,12 @@
 //! An engine with the pasts that undo and redo lead to.
 
-ghost use Rattle.std.specs.Prelude.{◌≡◌, ◌×◌, reverse};
+ghost use Rattle.std.specs.Prelude.{◌≡◌, reverse};
 ghost use Rattle.pdp_script.specs.Refusal.{for_memory, question_answer};
 ghost use Rattle.pdp_session.specs.Edit.{wants_memory};
 ghost use Rattle.pdp_session.specs.History.{LeadBack, Steps, pasts};
-ghost use Rattle.pdp_session.specs.Language.{language_with, SearchLanguage};
-ghost use Rattle.pdp_session.specs.Pasts.{pasts_begun, pasts_commanded, pasts_stepped};
-ghost use Rattle.pdp_session.specs.Pasts.{reply_in, step_reply};
+ghost use Rattle.pdp_session.specs.Language.{SearchLanguage, SessionLanguage, language_with};
+ghost use Rattle.pdp_session.specs.Language.{pasts_commanded, reply_in};
+ghost use Rattle.pdp_session.specs.Pasts.{pasts_begun, pasts_stepped, step_reply};
 ghost use Rattle.pdp_session.specs.Search.{search_result};
 
 mod before;

@@ -1,11 +1,12 @@
 //! What takes an edit back: what the past has before it of the one thing that it edits.
 
-ghost use Rattle.std.specs.Prelude.{◌≡◌, IfErr, IfOk, IsErr, Ok};
-ghost use Rattle.pdp_replay.specs.Past.{Past};
+ghost use Rattle.std.specs.Prelude.{◌≡◌, ◌/◌, IfErr, IfOk, IsErr, Ok};
+ghost use Rattle.pdp_replay.specs.Past.{Past, with_script};
 ghost use Rattle.pdp_script.specs.Restore.{number_edited};
 ghost use Rattle.pdp_script.specs.Script.{ScriptData, script_edited};
 ghost use Rattle.pdp_session.specs.Edit.{edit_due};
 ghost use Rattle.pdp_session.specs.History.{IsExchanged, LeadsBack, TakesBack, patched_word};
+ghost use Rattle.pdp_store.specs.Parts.{word_at};
 
 use crate::edit::Edit;
 use pdp_replay::{
