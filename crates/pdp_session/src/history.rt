@@ -138,7 +138,7 @@ impl History {
             return reply;
         }
         let _ = self.done.push(before);
-        self.undone.clear();
+        self.undone.clear(); // what was taken back can't be made again after another edit
         reply
     }
 

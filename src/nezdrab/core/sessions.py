@@ -188,6 +188,19 @@ SEARCHES = [
         "the turn, up to N, from which on the run with this edit would be the run as it is; EDIT "
         "is a line core, disk, at, alter or drop, and isn't made",
     ),
+    Line(
+        "undo",
+        SEARCH,
+        "ok",
+        "takes the last edit back, also the number of its event; version 2 and edits before it "
+        "stay",
+    ),
+    Line(
+        "redo",
+        SEARCH,
+        "ok",
+        "makes the edit again that was taken back last, if there was no other since",
+    ),
 ]
 # What a CONDITION is, in which W is an octal word, and the words of it before an address.
 CONDITIONS = (
@@ -220,6 +233,7 @@ REFUSALS = {
     "9": "this core word has no patch; patches lists them",
     "11": f"the line has more than {LONGEST_LINE} bytes",
     "16": "the drive's number is above 7",
+    "17": "there is no edit to take back, or to make again",
 }
 
 
