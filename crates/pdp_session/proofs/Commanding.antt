@@ -5,8 +5,8 @@ use Rattle.pdp_script.specs.declared.faults.Fault.{Fault}
 use Rattle.pdp_script.specs.declared.faults.Fault.TheVariants.{NoMemory}
 use Rattle.pdp_script.specs.declared.script.ScriptEdit.TheVariants.{Insert, Alter, Drop}
 use Rattle.pdp_replay.specs.Ask.Answer.{answer_to}
-use Rattle.pdp_replay.specs.Past.{Past}
-use Rattle.pdp_replay.specs.Past.Edit.{delay_edit, event_alteration, event_drop, event_insertion, patch_edit, revert_edit, tape_edit}
+use Rattle.pdp_replay.specs.Past.{Past, with_setup}
+use Rattle.pdp_replay.specs.Past.Edit.{delay_edit, event_alteration, event_drop, event_insertion, patch_edit, revert_edit, tape_edit, with_eight_drives}
 use Rattle.pdp_replay.specs.declared.ask.question.Value.{Value}
 use Rattle.pdp_replay.specs.declared.past.past_edit.PastEdit.TheVariants.{Script, Word}
 use Rattle.pdp_session.specs.declared.command.Command.{Command}
@@ -57,6 +57,12 @@ edit_told (edit.Past (Word patch)) refused past = told_in_memory (patch_edit pat
 edit_told (edit.RevertCore address) refused past = told_in_memory (revert_edit address past) refused past
 edit_told (edit.SetTape tape) refused past = told_in_memory (tape_edit tape.items past) refused past
 edit_told (edit.SetDelay device turns) refused past = told_at_once (delay_edit device turns past) past
+
+told_as : (e : Edit) (refused : Bool) (reply : Reply) (left past : Past) → reply ≡ reply_to_edit e refused past → left ≡ edit_leaves e refused past
+    → IsTold (edit_due e past) reply left past
+told_as e refused reply left past told after =
+    subst (λ (l : Past). IsTold (edit_due e past) reply l past) (sym after)
+    (subst (λ (r : Reply). IsTold (edit_due e past) r (edit_leaves e refused past) past) (sym told) (edit_told e refused past))
 
 -- ---- in the search language
 
@@ -124,7 +130,7 @@ pub edit_done : (e : Edit) (s : Pasts) (reply : Reply) (now : Past) → result_m
     → IsDone e s reply now
 edit_done e s reply now is told after made =
     let flag : Bool = wants_memory reply in
-    let all = rw (← told, ← after) at (edit_told e flag s.past) in
+    let all : IsTold (edit_due e s.past) reply now s.past = told_as e flag reply now s.past told after in
     let (due, kept, left) = done_by (edit_due e s.past) flag s reply now is all made refl in
     record { is = due; told = kept ∙ ap (reply_if_kept flag) told; after = left }
 
@@ -139,8 +145,7 @@ pub edit_failed : (e : Edit) (s : Pasts) (reply : Reply) (now : Past) → result
     → reply ≡ reply_to_edit e (wants_memory reply) s.past → now ≡ edit_leaves e (wants_memory reply) s.past → is_refused reply ≡ true
     → (reply ≡ Refused NoMemory) × (now ≡ s.past)
 edit_failed e s reply now is told after refused =
-    let flag : Bool = wants_memory reply in
-    failed_by (edit_due e s.past) s reply now is (rw (← told, ← after) at (edit_told e flag s.past)) refused
+    failed_by (edit_due e s.past) s reply now is (told_as e (wants_memory reply) reply now s.past told after) refused
 
 -- ---- the same text in both languages
 
@@ -184,18 +189,18 @@ kept_list : (flag : Bool) → reply_if_kept flag Listed ≡ Listed
 kept_list true = refl
 kept_list false = refl
 
-drives_text : (flag : Bool) (p q : Past) → text_of (reply_if_kept flag (edit_reply {X = Unit {0}} (edit_answer (Ok {X = Unit {0}} tt) flag tt))) p
-    ≡ text_of (edit_reply {X = Unit {0}} (edit_answer (Ok {X = Unit {0}} tt) flag tt)) q
+drives_text : (given : Past) (flag : Bool) (p q : Past) → text_of (reply_if_kept flag (edit_reply {X = Unit {0}} (edit_answer (Ok given) flag tt))) p
+    ≡ text_of (edit_reply {X = Unit {0}} (edit_answer (Ok given) flag tt)) q
 unfolding text_of
-drives_text true p q = refl
-drives_text false p q = refl
+drives_text given true p q = refl
+drives_text given false p q = refl
 
 pub same_text : (c : Command) (flag : Bool) (s : Pasts)
     → SameTexts flag (reply_in SearchLanguage c flag s.past) (reply_in SessionLanguage c flag s.past)
     (pasts_commanded SearchLanguage c flag s).past (pasts_commanded SessionLanguage c flag s).past
 same_text (command.Edit e) flag s =
     same_by (edit_due e s.past) flag (reply_to_edit e flag s.past) (edit_leaves e flag s.past) s.past _ _ (edit_told e flag s.past)
-same_text command.UseEightDrives flag s = inl (drives_text flag _ _)
+same_text command.UseEightDrives flag s = inl (drives_text (with_setup s.past (with_eight_drives s.past.setup)) flag _ _)
 same_text command.ListPatches flag s = inl (ap (λ r. text_of r s.past) (kept_list flag))
 same_text (command.Ask question) flag s =
     inl (ap (λ r. text_of r s.past) (kept_other flag (question_answer (answer_to question s.past) flag)))

@@ -54,14 +54,14 @@ pub served_command : {T E : Type 0} (language : Language) (command : Command) (p
     → reply ≡ reply_in language command (wants_memory reply) past.past → now ≡ pasts_commanded language command (wants_memory reply) past
     → shown ≡ now.past → Sends (text_of reply shown) output output_after result → ServesMeant language (Ok (kind.Command command)) past now output output_after result
 served_command language command past now reply shown output output_after result is after seen sends =
-    replied language (Ok (kind.Command command)) past now reply _ _ shown output output_after result refl refl is after seen sends
+    replied language (Ok (kind.Command command)) past now reply (reply_in language command (wants_memory reply) past.past) (pasts_commanded language command (wants_memory reply) past) shown output output_after result refl refl is after seen sends
 
 -- a step was taken
 pub served_step : {T E : Type 0} (language : Language) (step : Step) (past now : Pasts) (reply : Reply) (shown : Past) (output output_after : DrainData) (result : Result T E)
     → reply ≡ step_reply step (wants_memory reply) past → now ≡ pasts_stepped step (wants_memory reply) past
     → shown ≡ now.past → Sends (text_of reply shown) output output_after result → ServesMeant language (Ok (kind.Step step)) past now output output_after result
 served_step language step past now reply shown output output_after result is after seen sends =
-    replied language (Ok (kind.Step step)) past now reply _ _ shown output output_after result refl refl is after seen sends
+    replied language (Ok (kind.Step step)) past now reply (step_reply step (wants_memory reply) past) (pasts_stepped step (wants_memory reply) past) shown output output_after result refl refl is after seen sends
 
 -- a line that has no words was answered, or one that is refused
 pub served_nothing : {T E : Type 0} (language : Language) (past : Pasts) (output output_after : DrainData) (result : Result T E)
