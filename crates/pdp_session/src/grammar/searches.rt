@@ -16,6 +16,7 @@ ghost use Rattle.pdp_session.specs.Grammar.Searches.{when_form, writes_form};
 ghost use Rattle.pdp_session.specs.Grammar.Words.{words_of_line};
 ghost use Rattle.pdp_session.specs.Language.{language_with, search_of};
 
+use super::LineMeaning;
 use super::arguments::{
     drive_first, one_word, read_count, read_mode, read_turn, read_word, turns_first, two_words,
 };
@@ -23,7 +24,6 @@ use super::conditions::read_conditions;
 use super::counts::read_counts;
 use super::past_edits::read_past_edit;
 use super::state_questions::read_state_question;
-use super::LineMeaning;
 use super::words::next_word;
 use crate::history::Step;
 use crate::search::Search;

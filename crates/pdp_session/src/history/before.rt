@@ -9,9 +9,7 @@ ghost use Rattle.pdp_session.specs.History.{IsExchanged, LeadsBack, TakesBack, p
 ghost use Rattle.pdp_store.specs.Parts.{word_at};
 
 use crate::edit::Edit;
-use pdp_replay::{
-    Delays, Engine, EventBefore, PastEdit, Patch, ScriptEdit, WordBefore,
-};
+use pdp_replay::{Delays, Engine, EventBefore, PastEdit, Patch, ScriptEdit, WordBefore};
 use pdp_store::{Part, WordAt};
 use pdp_word::NoMemory;
 use std::alloc::Global;
