@@ -71,8 +71,9 @@ FORMS_OF_EIGHT_DRIVES = {
 }
 SUMMARIES = {word_of(it): it.summary for it in sessions.LANGUAGE[: SINCE_VERSION_2 + 1]}
 # Lines of searches without a turn, such as `setup`.
-LISTS = {it.form: it.summary for it in sessions.SEARCHES if " " not in it.form}
-SEARCHES = frozenset(word_of(it) for it in sessions.SEARCHES) - LISTS.keys()
+FINDING = [it for it in sessions.SEARCHES if it.kind == sessions.SEARCH]  # not undo and redo
+LISTS = {it.form: it.summary for it in FINDING if " " not in it.form}
+SEARCHES = frozenset(word_of(it) for it in FINDING) - LISTS.keys()
 EDITS = frozenset(it.decode() for it in sessions.EDITS)
 FADING = (*PATCHES, "at", "alter", "drop")  # the edits that the line `fades` takes
 EVENTS, MEANINGS = sessions.EVENTS, sessions.REFUSALS

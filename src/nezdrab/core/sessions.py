@@ -17,7 +17,7 @@ class Line(NamedTuple):
     summary: str
 
 
-EDIT, QUESTION, LIST, SEARCH = "edit", "question", "list", "search"
+EDIT, QUESTION, LIST, SEARCH, STEP = "edit", "question", "list", "search", "step"
 LANGUAGE = [
     Line("core A W", EDIT, "ok", "the core word at address A is W as of power-up"),
     Line("uncore A", EDIT, "ok", "take that back"),
@@ -190,14 +190,14 @@ SEARCHES = [
     ),
     Line(
         "undo",
-        SEARCH,
+        STEP,
         "ok",
         "takes the last edit back, also the number of its event; version 2 and edits before it "
         "stay",
     ),
     Line(
         "redo",
-        SEARCH,
+        STEP,
         "ok",
         "makes the edit again that was taken back last, if there was no other since",
     ),
