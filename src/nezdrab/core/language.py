@@ -76,7 +76,7 @@ LISTS = {it.form: it.summary for it in FINDING if " " not in it.form}
 SEARCHES = frozenset(word_of(it) for it in FINDING) - LISTS.keys()
 EDITS = frozenset(it.decode() for it in sessions.EDITS)
 FADING = (*PATCHES, "at", "alter", "drop")  # the edits that the line `fades` takes
-EVENTS, MEANINGS = sessions.EVENTS, sessions.REFUSALS
+EVENTS, MEANINGS = sessions.EVENTS, sessions.REFUSALS_OF_SEARCH
 
 
 def is_edit(line: str) -> bool:

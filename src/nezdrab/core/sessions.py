@@ -233,8 +233,8 @@ REFUSALS = {
     "9": "this core word has no patch; patches lists them",
     "11": f"the line has more than {LONGEST_LINE} bytes",
     "16": "the drive's number is above 7",
-    "17": "there is no edit to take back, or to make again",
 }
+REFUSALS_OF_SEARCH = {**REFUSALS, "17": "there is no edit to take back, or to make again"}
 
 
 def command_of(line: Line) -> bytes:
