@@ -60,5 +60,7 @@ export const LINES = [
   ["events", "search", "list", "events C", "none"],
   ["setup", "search", "list", "setup version V", "none"],
   ["fades N EDIT", "search", "question", "fades T", "up to N"],
+  ["undo", "search", "step", "ok", "none"],
+  ["redo", "search", "step", "ok", "none"],
 ].map(([form, language, kind, reply, turns]) =>
   ({ form, language, kind, reply, turns }));

@@ -43,6 +43,7 @@ const REFUSALS = new Map([
   [9, "this core word has no patch"], [10, "it isn't a line of the session language"],
   [11, "the line has more than 200 bytes"],
   [16, "the drive's number is above 7"],
+  [17, "there is no edit to take back, or to make again"],
 ]);
 
 /** @param {string} reply */

@@ -37,6 +37,7 @@ CHECKS = {
     "searches": Check("stored", ["--searches"], "the stored searches"),
     "lines": Check("lines", [], "searches, beside replies computed from each turn"),
     "jumps": Check("jumps", [], "questions asked again, back and forth"),
+    "undoing": Check("undoing", [], "each edit taken back and made again"),
     "each-turn": Check("jumps", ["--each-turn"], "each turn from a loaded state"),
     "web-sessions": Check("web", [], "the stored sessions on the page's modules"),
     "web-refusals": Check("web", ["--refusals"], "the same with requests for memory refused"),

@@ -82,10 +82,10 @@ def lines_of_searches() -> Iterator[str]:
     yield from items((it.form, it.summary) for it in sessions.SEARCHES)
 
 
-def refusals() -> Iterator[str]:
+def refusals(of: dict[str, str]) -> Iterator[str]:
     yield section("REFUSALS")
     yield from prose(REFUSED)
-    yield from items(sessions.REFUSALS.items())
+    yield from items(of.items())
 
 
 def commands() -> Iterator[str]:
@@ -128,8 +128,11 @@ def body(program: Program) -> Iterator[str]:
     yield from commands() if program.takes_session else ()
     if program.has_language:
         yield from lines_of_session()
-        yield from () if program.here == "pdp11" else lines_of_searches()
-        yield from refusals()
+        if program.here == "pdp11":
+            yield from refusals(sessions.REFUSALS)
+        else:
+            yield from lines_of_searches()
+            yield from refusals(sessions.REFUSALS_OF_SEARCH)
     yield section("EXIT STATUS")
     yield from items((it.status, it.when) for it in program.endings)
 

@@ -19,7 +19,7 @@ const GAP: usize = 2;
 /// |---|---|
 /// | form | the words of the line; one in capitals is an argument, `..` repeats the one before |
 /// | language | `session`, or `search` if only the program search has the line |
-/// | kind | `edit`, `question`, or `list`: it shows the past and asks of no turn |
+/// | kind | `edit`, `question`, `step` (undo, redo), or `list`: of the past, and of no turn |
 /// | arguments | the kind of each argument, with a space between two |
 /// | reply | how the reply begins, if the line is taken; if it ends in C, C lines follow |
 /// | turns | which turns a question asks of: N is its first turn, M its second; or `none` |

@@ -3,10 +3,12 @@ pub mod CountLines
 pub mod WordLines
 pub mod SessionEnds
 pub mod ServedLines
+pub mod Commanding
 pub mod Findings
 pub mod FoundLines
 pub mod KeptLines
 pub mod HeldLines
+pub mod Histories
 pub mod ImageWords
 pub mod LineLists
 pub mod NamedBytes
@@ -17,4 +19,5 @@ pub mod Pulls
 pub mod Reaching
 pub mod Replying
 pub mod Served
+pub mod TakenEdits
 pub mod WordLists

@@ -4,12 +4,13 @@ use Rattle.std.specs.List.{concat, slice_get}
 use Rattle.std.proofs.lemmas.Bool.{eqb-true, eq-eqb, false≢true}
 use Rattle.std.proofs.lemmas.List.Folds.{concat-append}
 use Rattle.pdp_script.specs.declared.faults.Fault.TheVariants.{NoMemory}
-use Rattle.pdp_replay.specs.Past.{Past}
 use Rattle.pdp_script.specs.Refusal.{result_map}
 use Rattle.pdp_script.specs.declared.faults.Fault.{Fault}
-use Rattle.pdp_session.specs.Command.{edit_reply, reply_to, past_after}
-use Rattle.pdp_session.specs.declared.search.Search.{Search}
-use Rattle.pdp_session.specs.Language.{Language, search_of, text_meant, text_to}
+use Rattle.pdp_session.specs.Edit.{edit_reply}
+use Rattle.pdp_session.specs.Language.{Language, line_read, meaning_of, pasts_after, pasts_meant, search_of, text_meant, text_to}
+use Rattle.pdp_session.specs.Grammar.{line_means}
+use Rattle.pdp_session.specs.Pasts.{Pasts}
+use Rattle.pdp_session.specs.declared.version.Version.{Version}
 use Rattle.pdp_session.specs.Inside.Progress.{Replied}
 use Rattle.pdp_session.specs.Reply.{refusal_text}
 use Rattle.pdp_session.specs.Version.{version_of}
@@ -48,7 +49,7 @@ only_next given text wanted refused flag memory only n = by_test (eqb n (length 
     by_test true e set = ap (slice_get (given ++ text ∷ [])) (eqb-true n (length given) e) ∙ slice_get-push given text ∙ ap Some (memory set)
     by_test false e set = slice_get-front given (text ∷ []) n wanted (only n set)
 
-pub nothing_replied : (language : Language) (past : Past) → Replied language past [] [] past
+pub nothing_replied : (language : Language) (past : Pasts) → Replied language past [] [] past
 nothing_replied language past = record {
   given = [];
   count = 0;
@@ -59,29 +60,31 @@ nothing_replied language past = record {
   goes = λ other next agrees. refl;
 }
 
--- the text that a line is answered is that of what was heard of it
-heard_text : (language : Language) (heard line : List ℕ) (flag : Bool) (now : Past) → IsHeardAs language (version_of now) heard line
-    → text_to language heard flag now ≡ text_to language line flag now
-unfolding text_to reply_to past_after
-heard_text language heard line flag now h = ap (λ found. text_meant found heard flag now) h.search ∙ by_search (search_of language (version_of now) line)
-  where
-    by_search : (found : Option Search) → text_meant found heard flag now ≡ text_meant found line flag now
-    by_search None = rw h.means refl
-    by_search (Some search) = refl
+-- a line is what was heard of it, is answered the same, and leaves the same
+heard_meaning : (language : Language) (version : Version) (heard line : List ℕ) → IsHeardAs language version heard line
+    → meaning_of language version heard ≡ meaning_of language version line
+unfolding meaning_of
+heard_meaning language version heard line h =
+    ap (λ m. line_read m (search_of language version heard)) h.means ∙ ap (line_read (line_means version line)) h.search
 
-heard_past : (language : Language) (heard line : List ℕ) (flag : Bool) (now : Past) → IsHeardAs language (version_of now) heard line
-    → past_after heard flag now ≡ past_after line flag now
-unfolding past_after
-heard_past language heard line flag now h = rw h.means refl
+heard_text : (language : Language) (heard line : List ℕ) (flag : Bool) (now : Pasts) → IsHeardAs language (version_of now.past) heard line
+    → text_to language heard flag now ≡ text_to language line flag now
+unfolding text_to
+heard_text language heard line flag now h = ap (λ m. text_meant language m flag now) (heard_meaning language (version_of now.past) heard line h)
+
+heard_past : (language : Language) (heard line : List ℕ) (flag : Bool) (now : Pasts) → IsHeardAs language (version_of now.past) heard line
+    → pasts_after language heard flag now ≡ pasts_after language line flag now
+unfolding pasts_after
+heard_past language heard line flag now h = ap (λ m. pasts_meant language m flag now) (heard_meaning language (version_of now.past) heard line h)
 
 -- one line more, that means what was heard of it
-pub next_replied : (language : Language) (past : Past) (lines : List (List ℕ)) (out : List ℕ) (now : Past) (line heard : List ℕ) (flag : Bool)
-    → IsHeardAs language (version_of now) heard line → (flag ≡ true → text_to language heard flag now ≡ refusal_text NoMemory) → Replied language past lines out now
-    → Replied language past (lines ++ line ∷ []) (out ++ text_to language heard flag now) (past_after heard flag now)
+pub next_replied : (language : Language) (past : Pasts) (lines : List (List ℕ)) (out : List ℕ) (now : Pasts) (line heard : List ℕ) (flag : Bool)
+    → IsHeardAs language (version_of now.past) heard line → (flag ≡ true → text_to language heard flag now ≡ refusal_text NoMemory) → Replied language past lines out now
+    → Replied language past (lines ++ line ∷ []) (out ++ text_to language heard flag now) (pasts_after language heard flag now)
 unfolding replies
 next_replied language past lines out now line heard flag same_line memory before =
     let text = text_to language heard flag now in
-    let after = past_after heard flag now in
+    let after = pasts_after language heard flag now in
     let refused : ℕ → Bool = with_line before.count flag before.refused in
     record {
       given = before.given ++ text ∷ [];
@@ -100,7 +103,7 @@ next_replied language past lines out now line heard flag same_line memory before
     }
 
 -- all lines were answered
-pub answers : (language : Language) (past : Past) (lines : List (List ℕ)) (out : List ℕ) (now : Past) → Replied language past lines out now → RepliesTo language past lines out
+pub answers : (language : Language) (past : Pasts) (lines : List (List ℕ)) (out : List ℕ) (now : Pasts) → Replied language past lines out now → RepliesTo language past lines out
 unfolding replies
 answers language past lines out now before =
     let whole : replies language 0 lines before.refused past ≡ before.given =
@@ -112,7 +115,7 @@ answers language past lines out now before =
     }
 
 -- and then the writer failed, whatever lines come next
-pub begins_answers : (language : Language) (past : Past) (lines : List (List ℕ)) (out unwritten : List ℕ) (now : Past) (next : List (List ℕ))
+pub begins_answers : (language : Language) (past : Pasts) (lines : List (List ℕ)) (out unwritten : List ℕ) (now : Pasts) (next : List (List ℕ))
     → Replied language past lines (out ++ unwritten) now → BeginsReplies language past (lines ++ next) out
 begins_answers language past lines out unwritten now next before =
     let later = replies language before.count next before.refused now in

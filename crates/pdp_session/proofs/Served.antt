@@ -2,11 +2,10 @@
 use Rattle.std.proofs.Common.{◌≡◌, ℕ, ◌+◌, ◌<◌, Result, Ok, Err, List, [], ◌∷◌, ◌++◌, length, take, drop, get_or, sym, ap, ◌∙◌, append_assoc, append-nil, take-append-drop}
 use Rattle.std.proofs.KnownBytes.{Appends-trans}
 use Rattle.std.proofs.lemmas.List.{take_more}
-use Rattle.pdp_replay.specs.Past.{Past}
-use Rattle.pdp_session.specs.Command.{past_after}
 use Rattle.pdp_session.specs.Lines.{without_return, lines_of}
 use Rattle.pdp_session.specs.Inside.Progress.{Reached, Goes, Breaks, Serves, Moves, Finishes}
-use Rattle.pdp_session.specs.Language.{Language, text_to}
+use Rattle.pdp_session.specs.Language.{Language, pasts_after, text_to}
+use Rattle.pdp_session.specs.Pasts.{Pasts}
 use Rattle.pdp_session.specs.Session.{BeginsReplies}
 use Rattle.pdp_session.specs.Streams.{DrainData}
 use Rattle.pdp_session.proofs.Pieces.{sent_nothing, sent_then}
@@ -18,7 +17,7 @@ cut_text : (out text taken unwritten : List ℕ) → text ≡ taken ++ unwritten
 cut_text out text taken unwritten split = ap (λ back. out ++ back) split ∙ sym (append_assoc out taken unwritten)
 
 -- the line that an LF ended was served
-pub line_moves : {T E : Type 0} (language : Language) (past : Past) (done out held : List ℕ) (now after : Past) (output output_after : DrainData) (result : Result T E)
+pub line_moves : {T E : Type 0} (language : Language) (past : Pasts) (done out held : List ℕ) (now after : Pasts) (output output_after : DrainData) (result : Result T E)
     → Reached language past done out held now → Serves language (without_return held) now after output output_after result
     → Moves language past (done ++ 10 ∷ []) out output output_after [] after result
 line_moves language past done out held now after output output_after (Ok x) r s = record {
@@ -28,7 +27,7 @@ line_moves language past done out held now after output output_after (Ok x) r s 
 }
 line_moves language past done out held now after output output_after (Err e) r s =
     let text = text_to language (without_return held) s.refused now in
-    let reached : Reached language past (done ++ 10 ∷ []) ((out ++ s.sends.taken) ++ s.sends.unwritten) [] (past_after (without_return held) s.refused now) =
+    let reached : Reached language past (done ++ 10 ∷ []) ((out ++ s.sends.taken) ++ s.sends.unwritten) [] (pasts_after language (without_return held) s.refused now) =
     rw (← cut_text out text s.sends.taken s.sends.unwritten s.sends.split) (line_reached language past done out held now s.refused s.only r) in
     record {
       more = s.sends.taken;
@@ -38,7 +37,7 @@ line_moves language past done out held now after output output_after (Err e) r s
     }
 
 -- the line that the end of the input left open was served
-pub last_finishes : {T E : Type 0} (language : Language) (past : Past) (done out held : List ℕ) (now after : Past) (output output_after : DrainData) (result : Result T E)
+pub last_finishes : {T E : Type 0} (language : Language) (past : Pasts) (done out held : List ℕ) (now after : Pasts) (output output_after : DrainData) (result : Result T E)
     → 0 < length held → Reached language past done out held now → Serves language held now after output output_after result → Finishes language past done out output output_after result
 last_finishes language past done out held now after output output_after (Ok x) some r s = record {
   more = text_to language held s.refused now;
@@ -48,7 +47,7 @@ last_finishes language past done out held now after output output_after (Ok x) s
 last_finishes language past done out held now after output output_after (Err e) some r s =
     let text = text_to language held s.refused now in
     let begins : BeginsReplies language past (lines_of done ++ []) (out ++ s.sends.taken) =
-    begins_answers language past (lines_of done) (out ++ s.sends.taken) s.sends.unwritten (past_after held s.refused now) []
+    begins_answers language past (lines_of done) (out ++ s.sends.taken) s.sends.unwritten (pasts_after language held s.refused now) []
     (rw (← cut_text out text s.sends.taken s.sends.unwritten s.sends.split) (last_replied language past done out held now s.refused s.only some r)) in
     record {
       more = s.sends.taken;
@@ -58,7 +57,7 @@ last_finishes language past done out held now after output output_after (Err e) 
     }
 
 -- nothing was written
-pub nothing_more : (language : Language) (past : Past) (done out held : List ℕ) (now : Past) (output : DrainData) → Reached language past done out held now
+pub nothing_more : (language : Language) (past : Pasts) (done out held : List ℕ) (now : Pasts) (output : DrainData) → Reached language past done out held now
     → Goes language past done out output output held now
 nothing_more language past done out held now output r = record {
   more = [];
@@ -67,7 +66,7 @@ nothing_more language past done out held now output r = record {
 }
 
 -- some bytes, and then some more
-pub then_moves : {T E : Type 0} (language : Language) (past : Past) (done all out held now_held : List ℕ) (between now : Past) (output output_between output_after : DrainData) (result : Result T E)
+pub then_moves : {T E : Type 0} (language : Language) (past : Pasts) (done all out held now_held : List ℕ) (between now : Pasts) (output output_between output_after : DrainData) (result : Result T E)
     → (g : Goes language past done out output output_between held between) → Moves language past all (out ++ g.more) output_between output_after now_held now result
     → Moves language past all out output output_after now_held now result
 then_moves language past done all out held now_held between now output output_between output_after (Ok x) g m = record {
@@ -83,7 +82,7 @@ then_moves language past done all out held now_held between now output output_be
 }
 
 -- the writer failed before the rest was taken
-pub breaks_early : (language : Language) (past : Past) (done rest out : List ℕ) (output output_after : DrainData) → Breaks language past done out output output_after
+pub breaks_early : (language : Language) (past : Pasts) (done rest out : List ℕ) (output output_after : DrainData) → Breaks language past done out output output_after
     → Breaks language past (done ++ rest) out output output_after
 breaks_early language past done rest out output output_after b = record {
   more = b.more;

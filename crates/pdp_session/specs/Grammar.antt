@@ -9,9 +9,9 @@ use Rattle.pdp_word.specs.Number.{number_of}
 use Rattle.pdp_script.specs.declared.faults.Fault.{Fault}
 use Rattle.pdp_script.specs.declared.faults.Fault.TheVariants.{BadLine, LineTooLong}
 use Rattle.pdp_session.specs.declared.command.Command.{Command}
-use Rattle.pdp_session.specs.declared.command.Command.TheVariants.{EditPast, RevertCore, SetTape}
-use Rattle.pdp_session.specs.declared.command.Command.TheVariants.{SetDelay, UseEightDrives}
+use Rattle.pdp_session.specs.declared.command.Command.TheVariants.{Edit, UseEightDrives}
 use Rattle.pdp_session.specs.declared.command.Command.TheVariants.{ListPatches, Ask}
+use Rattle.pdp_session.specs.declared.edit.Edit.TheVariants.{Past, RevertCore, SetTape, SetDelay}
 use Rattle.pdp_session.specs.declared.version.Version.{Version}
 use Rattle.pdp_session.specs.Grammar.Arguments.{◌>>=◌, first_of, one_of, two_of, drive_first}
 use Rattle.pdp_session.specs.Grammar.Arguments.{word_named, bytes_named, device_named, turn_named}
@@ -34,14 +34,14 @@ abbrev pub uncore_form : List (List ℕ) → Option Command
 uncore_form arguments = do
   address ← one_of arguments
   a ← number_of 8 address
-  Some (RevertCore a)
+  Some (Edit (RevertCore a))
 
 abbrev pub tape_of : List ℕ → ArrayVec ℕ
 tape_of bytes = record { items = bytes }
 
 -- `tape B B ..`: bytes, in octal; without any the tape is empty
 abbrev pub tape_form : List (List ℕ) → Option Command
-tape_form arguments = option_map (λ bytes. SetTape (tape_of bytes)) (bytes_named arguments)
+tape_form arguments = option_map (λ bytes. Edit (SetTape (tape_of bytes))) (bytes_named arguments)
 
 -- `delay printer N`, also `reader`, `punch`, `disk` and `clock`: so many turns, in decimal
 abbrev pub delay_form : List (List ℕ) → Option Command
@@ -49,7 +49,7 @@ delay_form arguments = do
   (name, turns) ← two_of arguments
   device ← device_named name
   n ← turn_named turns
-  Some (SetDelay device n)
+  Some (Edit (SetDelay device n))
 
 -- `version 2`, in decimal: no other version can be asked for
 abbrev pub version_form : List (List ℕ) → Option Command
@@ -72,7 +72,7 @@ command_with version name arguments =
     else if bytes_eq name (codes "delay") then delay_form arguments
     else if bytes_eq name (codes "version") then version_form arguments
     else if bytes_eq name (codes "patches") then patches_form arguments
-    else option_or (option_map EditPast (past_edit_with version name arguments))
+    else option_or (option_map (λ edit. Edit (Past edit)) (past_edit_with version name arguments))
     (option_map Ask (question_with version name arguments))
 
 -- its first byte is `#`

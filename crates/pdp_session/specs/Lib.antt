@@ -3,13 +3,17 @@
 pub mod Lines
 pub mod Version
 pub mod Grammar
+pub mod Edit
 pub mod Command
 pub mod Reply
 pub mod PastShown
 pub mod Transfers
 pub mod Accesses
--- The languages: the session language, and the search language, which has searches beside it.
+-- The languages: the session language, and the search language, which has searches beside it, and
+-- whose edits can be taken back.
 pub mod Search
+pub mod Pasts
+pub mod History
 pub mod Language
 -- The words of an image.
 pub mod Image

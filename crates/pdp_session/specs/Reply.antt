@@ -46,7 +46,7 @@ use Rattle.pdp_session.specs.declared.reply.states.FoundWhere.{FoundWhere}
 use Rattle.pdp_session.specs.declared.reply.states.FoundWhere.TheVariants.{InCore, OnDrive}
 use Rattle.pdp_session.specs.declared.reply.Reply.{Reply}
 use Rattle.pdp_session.specs.declared.reply.Reply.TheVariants.{Nothing, Done, Inserted, Shown}
-use Rattle.pdp_session.specs.declared.reply.Reply.TheVariants.{Listed, Refused}
+use Rattle.pdp_session.specs.declared.reply.Reply.TheVariants.{Listed, NoSuchEdit, Refused}
 use Rattle.pdp_session.specs.declared.version.Version.{Version}
 use Rattle.pdp_session.specs.declared.version.Version.TheVariants.{One, Two}
 use Rattle.pdp_session.specs.Version.{version_of}
@@ -275,6 +275,11 @@ value_text (VirtualAre words) = virtual_line words
 value_text (FoundInCore found) = words_found_text InCore found
 value_text (FoundOnDrive found) = words_found_text OnDrive found
 
+-- was a line refused that can be refused as a fault alone?
+abbrev pub is_refused : Reply → Bool
+is_refused (Refused fault) = true
+is_refused _ = false
+
 -- a reply as text; a list of patches is that of the past as it is then
 unfoldable pub text_of : Reply → Past → List ℕ
 text_of Nothing past = []
@@ -282,4 +287,5 @@ text_of Done past = codes "ok" ++ codes "\n"
 text_of (Inserted number) past = codes "event " ++ decimal number ++ codes "\n"
 text_of (Shown value) past = value_text value
 text_of Listed past = patches_text past
+text_of NoSuchEdit past = codes "refused 17 NoSuchEdit" ++ codes "\n"
 text_of (Refused fault) past = refusal_text fault

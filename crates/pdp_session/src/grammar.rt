@@ -20,6 +20,8 @@ mod state_questions;
 mod words;
 
 use crate::command::Command;
+use crate::edit::Edit;
+use crate::history::Step;
 use crate::search::Search;
 use crate::version::Version;
 use arguments::{one_word, read_bytes, read_device_name, read_turn, two_words};
@@ -39,7 +41,9 @@ pub enum LineMeaning {
     // A comment, or a line without words.
     Nothing,
     Command(Command),
+    // The search language alone has searches and steps.
     Search(Search),
+    Step(Step),
 }
 
 /// A line, less what ended it, in this version; SEARCHES is whether its language has searches.
@@ -56,8 +60,7 @@ pub fn read_line<const SEARCHES: bool>(version: Version, line: &[u8]) -> Result<
             if fault != Fault::BadLine {
                 return Err(fault);
             }
-            let search = read_search::<SEARCHES>(version, line).ok_or(fault)?;
-            Ok(LineMeaning::Search(search))
+            read_search::<SEARCHES>(version, line).ok_or(fault)
         }
     }
 }
@@ -100,7 +103,7 @@ fn read_command(version: Version, name: &[u8], arguments: &[u8]) -> Option<Comma
     } else if name == b"patches".as_slice() {
         read_patches(arguments)
     } else if let Some(edit) = read_past_edit(version, name, arguments) {
-        Some(Command::EditPast(edit))
+        Some(Command::Edit(Edit::Past(edit)))
     } else {
         let question = read_question(version, name, arguments)?;
         Some(Command::Ask(question))
@@ -112,7 +115,7 @@ fn read_uncore(arguments: &[u8]) -> Option<Command>
     ensures { result ≡ uncore_form (words_of_line arguments.now) }
 {
     let address = read_octal(one_word(arguments)?)?;
-    Some(Command::RevertCore { address })
+    Some(Command::Edit(Edit::RevertCore { address }))
 }
 
 /// `tape B B ..`
@@ -121,7 +124,7 @@ fn read_tape(arguments: &[u8]) -> Option<Command>
     ensures { result ≡ tape_form (words_of_line arguments.now) }
 {
     let bytes = read_bytes(arguments)?;
-    Some(Command::SetTape(bytes))
+    Some(Command::Edit(Edit::SetTape(bytes)))
 }
 
 /// `delay printer N`, also `reader`, `punch`, `disk` and `clock`
@@ -131,7 +134,7 @@ fn read_delay(arguments: &[u8]) -> Option<Command>
     let (name, delay) = two_words(arguments)?;
     let device = read_device_name(name)?;
     let delay = read_turn(delay)?;
-    Some(Command::SetDelay { device, delay })
+    Some(Command::Edit(Edit::SetDelay { device, delay }))
 }
 
 /// `version 2`; there is no line that leads back to version 1

@@ -23,7 +23,9 @@
 #![tactic(auto)]
 
 mod command;
+mod edit;
 mod grammar;
+mod history;
 mod image;
 mod laws;
 mod lines;

@@ -1,6 +1,6 @@
 ghost use Rattle.std.specs.Prelude.{◌≡◌};
 ghost use Rattle.pdp_session.specs.Reply.{text_of, value_text, patches_text, kept_patch_line};
-ghost use Rattle.pdp_session.specs.Reply.{line_at, words_line};
+ghost use Rattle.pdp_session.specs.Reply.{is_refused, line_at, words_line};
 ghost use Rattle.pdp_session.specs.Inside.Sends.{Sends};
 ghost use Rattle.pdp_session.specs.Version.{version_of};
 
@@ -23,8 +23,8 @@ use history::{last_text, send_trail};
 use pdp_replay::{Engine, Fault, Value};
 use states::{FoundWhere, send_found_words, send_virtual, translation_text};
 use texts::{
-    Text, count_text, devices_text, done_text, insertion_text, pages_text, patch_text,
-    refusal_text, regs_text, word_text,
+    Text, count_text, devices_text, done_text, insertion_text, no_such_edit_text, pages_text,
+    patch_text, refusal_text, regs_text, word_text,
 };
 
 /// What a line is answered.
@@ -36,7 +36,19 @@ pub enum Reply {
     Shown(Value),
     // The patches of the past as it is then.
     Listed,
+    // There is no edit to take back, or to make again.
+    NoSuchEdit,
     Refused(Fault),
+}
+
+/// Whether a line was refused that can be refused as a fault alone.
+pub fn is_refused(reply: &Reply) -> bool
+    ensures { result ≡ is_refused reply.now }
+{
+    match reply {
+        Reply::Refused(_) => true,
+        _ => false,
+    }
 }
 
 /// Writes a reply: nothing, or lines that each end in LF.
@@ -51,6 +63,7 @@ pub fn send_reply<W: Drain>(engine: &Engine, reply: Reply, writer: &mut W) -> Re
         Reply::Inserted(number) => insertion_text(number),
         Reply::Shown(value) => return send_value(&value, writer),
         Reply::Listed => return send_patches(engine, writer),
+        Reply::NoSuchEdit => no_such_edit_text(),
         Reply::Refused(fault) => refusal_text(fault),
     };
     send(writer, text.as_slice())

@@ -7,6 +7,7 @@ ghost use Rattle.pdp_session.specs.Streams.{streams_of};
 
 mod serving;
 
+use crate::history::History;
 use crate::lines::Held;
 use crate::streams::{Drain, Feed};
 use pdp_replay::{Engine, Fault, Setup};
@@ -53,20 +54,20 @@ pub fn run<const SEARCHES: bool, R: Feed, W: Drain>(
     ensures sound { OnOk result (((R.input reader.new).has_failed ≡ false)
         × ((W.output writer.new).has_failed ≡ false)) }
 {
-    let mut engine = Engine::new(alloc, setup)?;
-    serve::<SEARCHES, R, W>(alloc, &mut engine, reader, writer)
+    let engine = Engine::new(alloc, setup)?;
+    serve::<SEARCHES, R, W>(alloc, engine, reader, writer)
 }
 
 /// Runs a session on an engine.
 fn serve<const SEARCHES: bool, R: Feed, W: Drain>(
     alloc: Global,
-    engine: &mut Engine,
+    engine: Engine,
     reader: &mut R,
     writer: &mut W,
 ) -> Result<(), Fault>
     requires reader_sound { (R.input reader.old).has_failed ≡ false }
     requires writer_sound { (W.output writer.old).has_failed ≡ false }
-    ensures session { Session (language_with SEARCHES) (Ok engine.old.past)
+    ensures session { Session (language_with SEARCHES) (Ok engine.past)
         (streams_of (R.input reader.old) (W.output writer.old))
         (streams_of (R.input reader.new) (W.output writer.new)) result }
     ensures began { IfErr result (λ fault. is_told_first fault ≡ false) }
@@ -75,19 +76,20 @@ fn serve<const SEARCHES: bool, R: Feed, W: Drain>(
     ensures sound { OnOk result (((R.input reader.new).has_failed ≡ false)
         × ((W.output writer.new).has_failed ≡ false)) }
 {
+    let mut history = History::new(alloc, engine);
     let mut held = Held::new();
     let mut chunk = [0; 256];
     loop {
         match reader.pull(&mut chunk) {
             Ok(0) => {
-                return match serve_last_line::<SEARCHES, W>(alloc, engine, &held, writer) {
+                return match serve_last_line::<SEARCHES, W>(alloc, &mut history, &held, writer) {
                     Ok(()) => Ok(()),
                     Err(_) => Err(Fault::Output),
                 };
             }
             Ok(count) => {
                 let (bytes, _) = chunk.split_at(count);
-                match take_bytes::<SEARCHES, W>(alloc, engine, &mut held, bytes, writer) {
+                match take_bytes::<SEARCHES, W>(alloc, &mut history, &mut held, bytes, writer) {
                     Ok(()) => {}
                     Err(_) => return Err(Fault::Output),
                 }

@@ -1,5 +1,6 @@
-//! search: a PDP-11/40 as pdp11 runs it, with lines for searches of its run beside those of a
-//! session. It stands on pdp_program, which has its command line, its files and its exit statuses.
+//! search: a PDP-11/40 as pdp11 runs it, with lines for searches of its run, and for taking edits
+//! back, beside those of a session. It stands on pdp_program, which has its command line, its files
+//! and its exit statuses.
 //!
 //! # What is proved
 //!
@@ -111,6 +112,10 @@ setup\tsearch\tlist\t\tsetup version V\tnone\t\
 fades N EDIT\tsearch\tquestion\tturn edit\tfades T\tup to N\t\
     the turn, up to N, from which on the run with this edit would be the run as it is; EDIT is a \
     line core, disk, at, alter or drop, and isn't made
+undo\tsearch\tstep\t\tok\tnone\t\
+    takes the last edit back, also the number of its event; version 2 and edits before it stay
+redo\tsearch\tstep\t\tok\tnone\t\
+    makes the edit again that was taken back last, if there was no other since
 ";
 
 fn main(rt: HostRuntime) -> ExitCode {

@@ -115,4 +115,8 @@ version, units, start, stride, delays in turns, and how many bytes the tape has
 fades N EDIT\tsearch\tquestion\tturn edit\tfades T\tup to N\t\
 the turn, up to N, from which on the run with this edit would be the run as it is; EDIT is a \
 line core, disk, at, alter or drop, and isn't made
+undo\tsearch\tstep\t\tok\tnone\t\
+takes the last edit back, also the number of its event; version 2 and edits before it stay
+redo\tsearch\tstep\t\tok\tnone\t\
+makes the edit again that was taken back last, if there was no other since
 """

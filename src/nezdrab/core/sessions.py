@@ -23,7 +23,7 @@ class Line(NamedTuple):
     summary: str
 
 
-EDIT, QUESTION = "edit", "question"
+EDIT, QUESTION, STEP = "edit", "question", "step"
 # Which turns a line asks of: the state before one, those of a span, and so many before one.
 STATE, SPAN, LAST = "before N", "N to M", "C before N"
 TABLE = [Line(*row.split("\t")) for row in ROWS.splitlines()]
@@ -64,6 +64,7 @@ REFUSALS = {
     "11": f"the line has more than {LONGEST_LINE} bytes",
     "16": "the drive's number is above 7",
 }
+REFUSALS_OF_SEARCH = {**REFUSALS, "17": "there is no edit to take back, or to make again"}
 
 
 def command_of(line: Line) -> bytes:

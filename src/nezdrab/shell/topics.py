@@ -1,8 +1,7 @@
 """Help by topic: which lines belong together."""
 from typing import Iterable, Iterator
 
-from ..core import sessions
-from ..core.language import SUMMARIES, form_of
+from ..core.language import FINDING, SUMMARIES, form_of
 from ..core.values import dataclass
 from .commands import COMMANDS
 
@@ -104,6 +103,6 @@ def language_lines(version: int) -> Iterator[str]:
 
 
 def search_lines() -> Iterator[str]:
-    for line in sessions.SEARCHES:
+    for line in FINDING:
         yield f"  {line.form}"
         yield f"      {line.summary}"

@@ -1,7 +1,8 @@
--- The searches of the search language [P]: a name, and the words that follow it. Turns are in
--- decimal; those of a search are from the first on and before the second.
+-- The lines that the search language alone has [P]: searches, undo and redo. Each is a name, and the
+-- words that follow it. Turns are in decimal; those of a search are from the first on and before the
+-- second.
 use Rattle.std.specs.Prelude.{ℕ, if◌then◌else◌, List, [], ◌∷◌, codes, Option, None, Some}
-use Rattle.std.specs.Option.{option_map}
+use Rattle.std.specs.Option.{option_map, option_or}
 use Rattle.std.specs.Str.{bytes_eq}
 use Rattle.pdp_word.specs.Number.{number_of}
 use Rattle.pdp_replay.specs.declared.ask.sought.Sought.{Sought}
@@ -9,6 +10,10 @@ use Rattle.pdp_replay.specs.declared.ask.sought.Sought.TheVariants.{Instruction,
 use Rattle.pdp_replay.specs.declared.ask.sought.Sought.TheVariants.{Where}
 use Rattle.pdp_replay.specs.declared.ask.text_part.TextKind.{TextKind}
 use Rattle.pdp_replay.specs.declared.ask.text_part.TextKind.TheVariants.{Printed, Punched}
+use Rattle.pdp_session.specs.declared.grammar.LineMeaning.{LineMeaning}
+use Rattle.pdp_session.specs.declared.grammar.LineMeaning.TheVariants as kind
+use Rattle.pdp_session.specs.declared.history.Step.{Step}
+use Rattle.pdp_session.specs.declared.history.Step.TheVariants.{Undo, Redo}
 use Rattle.pdp_session.specs.declared.search.Search.{Search}
 use Rattle.pdp_session.specs.declared.search.Search.TheVariants.{First, Latest, Writes, Change}
 use Rattle.pdp_session.specs.declared.search.Search.TheVariants.{TextFrom, When, Fades, Ask}
@@ -165,7 +170,20 @@ search_with version name arguments =
     else if bytes_eq name (codes "setup") then alone Setup arguments
     else option_map Ask (state_question_with version name arguments)
 
--- the search that some words are
-abbrev pub search_named : Version → List (List ℕ) → Option Search
+-- `undo` and `redo`
+abbrev pub step_of_name : List ℕ → Option Step
+step_of_name name =
+    if bytes_eq name (codes "undo") then Some Undo
+    else if bytes_eq name (codes "redo") then Some Redo
+    else None
+
+unfoldable pub step_with : List ℕ → List (List ℕ) → Option Step
+step_with name [] = step_of_name name
+step_with name _ = None
+
+-- the search or the step that some words are
+abbrev pub search_named : Version → List (List ℕ) → Option LineMeaning
 search_named version [] = None
-search_named version (name ∷ arguments) = search_with version name arguments
+search_named version (name ∷ arguments) =
+    option_or (option_map kind.Step (step_with name arguments))
+    (option_map kind.Search (search_with version name arguments))

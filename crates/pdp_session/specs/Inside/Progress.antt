@@ -4,49 +4,33 @@ use Rattle.std.specs.Prelude.{◌≡◌, ℕ, ◌+◌, ◌<◌, Bool, true, fals
 use Rattle.std.specs.Prelude.{Ok, Err, Option}
 use Rattle.std.specs.List.{All, concat}
 use Rattle.std.specs.Io.KnownBytes.{Appends}
-use Rattle.pdp_script.specs.Refusal.{question_answer}
 use Rattle.pdp_script.specs.declared.faults.Fault.{Fault}
 use Rattle.pdp_script.specs.declared.faults.Fault.TheVariants.{NoMemory}
-use Rattle.pdp_replay.specs.Past.{Past}
-use Rattle.pdp_session.specs.declared.search.Search.{Search}
-use Rattle.pdp_session.specs.declared.command.Command.{Command}
-use Rattle.pdp_session.specs.Command.{past_after, past_meant, reply_meant}
-use Rattle.pdp_session.specs.Language.{Language, text_to}
+use Rattle.pdp_session.specs.declared.grammar.LineMeaning.{LineMeaning}
+use Rattle.pdp_session.specs.Language.{Language, pasts_after, pasts_meant, text_meant, text_to}
 use Rattle.pdp_session.specs.Lines.{longest_line, is_line_feed, ended_lines, lines_of}
-use Rattle.pdp_session.specs.Reply.{refusal_text, text_of}
-use Rattle.pdp_session.specs.Search.{found_text, search_result}
+use Rattle.pdp_session.specs.Pasts.{Pasts}
+use Rattle.pdp_session.specs.Reply.{refusal_text}
 use Rattle.pdp_session.specs.Streams.{DrainData}
 use Rattle.pdp_session.specs.Inside.Sends.{Sent, Sends}
 use Rattle.pdp_session.specs.Session.{replies, OnlyForMemory, RepliesTo, BeginsReplies}
 
 -- what answering one line of a language does
-pub record Serves {T E : Type 0} (language : Language) (line : List ℕ) (past now : Past)
+pub record Serves {T E : Type 0} (language : Language) (line : List ℕ) (past now : Pasts)
     (output output_after : DrainData) (result : Result T E) : Type 0 where
   pub refused : Bool
   pub only : refused ≡ true → text_to language line refused past ≡ refusal_text
       NoMemory
-  pub after : now ≡ past_after line refused past
+  pub after : now ≡ pasts_after language line refused past
   pub sends : Sends (text_to language line refused past) output output_after result
 
--- what answering a line does that means this in the session language
-pub record ServesMeant {T E : Type 0} (meant : Result (Option Command) Fault) (past now : Past)
-    (output output_after : DrainData) (result : Result T E) : Type 0 where
+-- what answering a line does that means this
+pub record ServesMeant {T E : Type 0} (language : Language) (meant : Result LineMeaning Fault)
+    (past now : Pasts) (output output_after : DrainData) (result : Result T E) : Type 0 where
   pub refused : Bool
-  pub only : refused ≡ true → text_of (reply_meant meant refused past) (past_meant meant refused
-      past) ≡ refusal_text NoMemory
-  pub after : now ≡ past_meant meant refused past
-  pub sends : Sends (text_of (reply_meant meant refused past) (past_meant meant refused past))
-      output output_after result
-
--- what making one search does
-pub record ServesSearch {T E : Type 0} (search : Search) (past now : Past)
-    (output output_after : DrainData) (result : Result T E) : Type 0 where
-  pub refused : Bool
-  pub only : refused ≡ true → found_text (question_answer (search_result search past) refused)
-      ≡ refusal_text NoMemory
-  pub after : now ≡ past
-  pub sends : Sends (found_text (question_answer (search_result search past) refused)) output
-      output_after result
+  pub only : refused ≡ true → text_meant language meant refused past ≡ refusal_text NoMemory
+  pub after : now ≡ pasts_meant language meant refused past
+  pub sends : Sends (text_meant language meant refused past) output output_after result
 
 -- two sets have the same of the first n lines
 abbrev pub AgreesBelow : ℕ → (ℕ → Bool) → (ℕ → Bool) → Type 0
@@ -55,8 +39,8 @@ AgreesBelow n refused other = (k : ℕ) → k < n → other k ≡ refused k
 -- From this past, `lines` were answered with `out`, and the past is `now`. Whatever lines come
 -- next, and whichever of those are refused as out of memory, the replies begin with those that were
 -- given.
-pub record Replied (language : Language) (past : Past) (lines : List (List ℕ)) (out : List ℕ)
-    (now : Past) : Type 0 where
+pub record Replied (language : Language) (past : Pasts) (lines : List (List ℕ)) (out : List ℕ)
+    (now : Pasts) : Type 0 where
   pub given : List (List ℕ)
   pub count : ℕ
   pub refused : ℕ → Bool
@@ -73,7 +57,7 @@ most_held = longest_line + 2
 
 -- The bytes `done` were read and `out` was written: all lines that ended were answered, and the
 -- line buffer has what it holds of the line that is open.
-pub record Reached (language : Language) (past : Past) (done out held : List ℕ) (now : Past)
+pub record Reached (language : Language) (past : Pasts) (done out held : List ℕ) (now : Pasts)
     : Type 0 where
   pub whole : List ℕ
   pub tail : List ℕ
@@ -86,14 +70,14 @@ pub record Reached (language : Language) (past : Past) (done out held : List ℕ
   pub replied : Replied language past lines out now
 
 -- `more` was written, and the session goes on
-pub record Goes (language : Language) (past : Past) (done out : List ℕ)
-    (output output_after : DrainData) (held : List ℕ) (now : Past) : Type 0 where
+pub record Goes (language : Language) (past : Pasts) (done out : List ℕ)
+    (output output_after : DrainData) (held : List ℕ) (now : Pasts) : Type 0 where
   pub more : List ℕ
   pub sent : Sent more output output_after
   pub reached : Reached language past done (out ++ more) held now
 
 -- `more` was written before the writer failed, within the replies to whatever begins with `done`
-pub record Breaks (language : Language) (past : Past) (done out : List ℕ)
+pub record Breaks (language : Language) (past : Pasts) (done out : List ℕ)
     (output output_after : DrainData) : Type 0 where
   pub more : List ℕ
   pub writes : Appends output.written output_after.written more
@@ -101,35 +85,35 @@ pub record Breaks (language : Language) (past : Past) (done out : List ℕ)
   pub broken : (next : List ℕ) → BeginsReplies language past (lines_of (done ++ next)) (out ++ more)
 
 -- what the next bytes do, after which `done` was read
-abbrev pub Moves : {T E : Type 0} → Language → Past → List ℕ → List ℕ → DrainData → DrainData
-    → List ℕ → Past → Result T E → Type 0
+abbrev pub Moves : {T E : Type 0} → Language → Pasts → List ℕ → List ℕ → DrainData → DrainData
+    → List ℕ → Pasts → Result T E → Type 0
 Moves language past done out output output_after held now (Ok x) =
     Goes language past done out output output_after held now
 Moves language past done out output output_after held now (Err e) =
     Breaks language past done out output output_after
 
 -- from wherever a session has come to, these bytes move it on
-abbrev pub Takes : {T E : Type 0} → Language → List ℕ → List ℕ → List ℕ → Past → Past
+abbrev pub Takes : {T E : Type 0} → Language → List ℕ → List ℕ → List ℕ → Pasts → Pasts
     → DrainData → DrainData → Result T E → Type 0
 Takes language bytes held held_after now now_after output output_after result =
-    (past : Past) (done out : List ℕ) → Reached language past done out held now
+    (past : Pasts) (done out : List ℕ) → Reached language past done out held now
     → Moves language past (done ++ bytes) out output output_after held_after now_after result
 
 -- what the end of the input does
-pub record Completes (language : Language) (past : Past) (done out : List ℕ)
+pub record Completes (language : Language) (past : Pasts) (done out : List ℕ)
     (output output_after : DrainData) : Type 0 where
   pub more : List ℕ
   pub sent : Sent more output output_after
   pub answers : RepliesTo language past (lines_of done) (out ++ more)
 
-pub record BreaksOff (language : Language) (past : Past) (done out : List ℕ)
+pub record BreaksOff (language : Language) (past : Pasts) (done out : List ℕ)
     (output output_after : DrainData) : Type 0 where
   pub more : List ℕ
   pub writes : Appends output.written output_after.written more
   pub failed : output_after.has_failed ≡ true
   pub begins : BeginsReplies language past (lines_of done) (out ++ more)
 
-abbrev pub Finishes : {T E : Type 0} → Language → Past → List ℕ → List ℕ → DrainData → DrainData
+abbrev pub Finishes : {T E : Type 0} → Language → Pasts → List ℕ → List ℕ → DrainData → DrainData
     → Result T E → Type 0
 Finishes language past done out output output_after (Ok x) =
     Completes language past done out output output_after
@@ -138,8 +122,8 @@ Finishes language past done out output output_after (Err e) =
 
 -- from wherever a session has come to, the end of the input finishes it
 abbrev pub TakesEnd
-    : {T E : Type 0} → Language → List ℕ → Past → DrainData → DrainData → Result T E
+    : {T E : Type 0} → Language → List ℕ → Pasts → DrainData → DrainData → Result T E
     → Type 0
 TakesEnd language held now output output_after result =
-    (past : Past) (done out : List ℕ) → Reached language past done out held now
+    (past : Pasts) (done out : List ℕ) → Reached language past done out held now
     → Finishes language past done out output output_after result

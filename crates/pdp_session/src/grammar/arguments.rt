@@ -8,7 +8,7 @@ ghost use Rattle.pdp_session.specs.Grammar.Words.{words_of_line};
 ghost use Rattle.pdp_session.specs.Lines.{longest_line};
 
 use super::words::next_word;
-use crate::command::TapeBytes;
+use crate::edit::TapeBytes;
 use crate::version::Version;
 use pdp_kt11::Mode;
 use pdp_replay::DelayedDevice;

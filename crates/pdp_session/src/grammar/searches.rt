@@ -1,6 +1,6 @@
-//! The grammar of searches: a search is one row of [`read_named`] and one form below it, and a
-//! question that the search language alone has one row of `read_state_question` and one form below
-//! that.
+//! The grammar of the lines that the search language alone has: a search is one row of
+//! [`read_named`] and one form below it, a question that the search language alone has one row of
+//! `read_state_question` and one form below that, and `undo` and `redo` a row of [`read_step`] each.
 
 ghost use Rattle.std.specs.Prelude.{◌≡◌, Err};
 ghost use Rattle.pdp_session.specs.Grammar.{line_means};
@@ -10,11 +10,13 @@ ghost use Rattle.pdp_session.specs.Grammar.Searches.{latest_form, part_named, pl
 ghost use Rattle.pdp_session.specs.Grammar.Searches.{reads_form};
 ghost use Rattle.pdp_session.specs.Grammar.Searches.{search_named, search_with};
 ghost use Rattle.pdp_session.specs.Grammar.Searches.{sought_in_any_mode, sought_in_mode};
-ghost use Rattle.pdp_session.specs.Grammar.Searches.{sought_named, text_from_form, transfers_form};
+ghost use Rattle.pdp_session.specs.Grammar.Searches.{sought_named, step_with, text_from_form};
+ghost use Rattle.pdp_session.specs.Grammar.Searches.{transfers_form};
 ghost use Rattle.pdp_session.specs.Grammar.Searches.{when_form, writes_form};
 ghost use Rattle.pdp_session.specs.Grammar.Words.{words_of_line};
 ghost use Rattle.pdp_session.specs.Language.{language_with, search_of};
 
+use super::LineMeaning;
 use super::arguments::{
     drive_first, one_word, read_count, read_mode, read_turn, read_word, turns_first, two_words,
 };
@@ -23,15 +25,16 @@ use super::counts::read_counts;
 use super::past_edits::read_past_edit;
 use super::state_questions::read_state_question;
 use super::words::next_word;
+use crate::history::Step;
 use crate::search::Search;
 use crate::version::Version;
 use pdp_replay::{Fault, Sought, TextKind};
 use pdp_word::read_octal;
 
-/// The search that a line is which is no line of the session language, less what ended it, in this
-/// version, if its language has searches.
+/// The search or the step that a line is which is no line of the session language, less what ended
+/// it, in this version, if its language has searches.
 #[tactic(auto, unfolding(crate::specs::Language::search_of))]
-pub fn read_search<const SEARCHES: bool>(version: Version, line: &[u8]) -> Option<Search>
+pub fn read_search<const SEARCHES: bool>(version: Version, line: &[u8]) -> Option<LineMeaning>
     requires { line_means version line.now ≡ Err Fault.BadLine }
     ensures { result ≡ search_of (language_with SEARCHES) version line.now }
 {
@@ -42,12 +45,34 @@ pub fn read_search<const SEARCHES: bool>(version: Version, line: &[u8]) -> Optio
     }
 }
 
-/// The search that the words of a text are.
-fn read_words(version: Version, text: &[u8]) -> Option<Search>
+/// The search or the step that the words of a text are.
+fn read_words(version: Version, text: &[u8]) -> Option<LineMeaning>
     ensures { result ≡ search_named version (words_of_line text.now) }
 {
     let (name, arguments) = next_word(text)?;
-    read_named(version, name, arguments)
+    if let Some(step) = read_step(name, arguments) {
+        Some(LineMeaning::Step(step))
+    } else {
+        let search = read_named(version, name, arguments)?;
+        Some(LineMeaning::Search(search))
+    }
+}
+
+/// `undo` or `redo`, without arguments.
+#[tactic(auto, unfolding(crate::specs::Grammar::Searches::step_with))]
+fn read_step(name: &[u8], arguments: &[u8]) -> Option<Step>
+    ensures { result ≡ step_with name.now (words_of_line arguments.now) }
+{
+    if next_word(arguments).is_some() {
+        return None;
+    }
+    if name == b"undo".as_slice() {
+        Some(Step::Undo)
+    } else if name == b"redo".as_slice() {
+        Some(Step::Redo)
+    } else {
+        None
+    }
 }
 
 /// The search of a name, with the words that follow it.

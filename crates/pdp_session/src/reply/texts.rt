@@ -60,6 +60,15 @@ pub fn done_text() -> Text
     text
 }
 
+/// The reply if there is no edit to take back, or to make again.
+pub fn no_such_edit_text() -> Text
+    ensures { result.items ≡ codes "refused 17 NoSuchEdit" ++ codes "\n" }
+{
+    let mut text = Text::new();
+    add(&mut text, b"refused 17 NoSuchEdit\n");
+    text
+}
+
 /// The reply to an insertion that was made.
 pub fn insertion_text(number: u32) -> Text
     ensures { result.items ≡ codes "event " ++ decimal number ++ codes "\n" }

@@ -1,6 +1,7 @@
+use Rattle.pdp_session.specs.History.{pasts}
 use Rattle.pdp_session.proofs.ServedLines.{made_search}
 use Rattle.pdp_session.proofs.session.serving.serve_search.Goals as goal
 
 pub returns : goal.returns
-returns g c =
-    made_search c.args.search c.args.engine.now.past _ c.run-found.result _ _ _ c.run-found.ensures.finding c.run-found.ensures.past c.send_found.ensures
+returns g c = λ language.
+    made_search language c.args.search (pasts c.args.history.now) _ c.find-found.result _ _ _ c.find-found.ensures.finding c.find-found.ensures.pasts c.send_found.ensures

@@ -2,6 +2,7 @@ use Rattle.std.proofs.Common.{◌≡◌, ◌+◌, ◌<◌, ◌∷◌, ◌++◌, 
 use Rattle.std.proofs.lemmas.List.{take_all}
 use Rattle.std.proofs.lemmas.Result.{err_from_is_err_and}
 use Rattle.pdp_session.specs.declared.streams.Failed.{Failed}
+use Rattle.pdp_session.specs.History.{pasts}
 use Rattle.pdp_session.proofs.Served.{then_moves, breaks_early, one_more_byte, all_bytes}
 use Rattle.pdp_session.proofs.session.serving.take_bytes.Goals as goal
 
@@ -15,7 +16,7 @@ returns-in_err-take_byte g c = λ past done out r.
     let (failed, is, same) = err_from_is_err_and c.from_residual.result c.from_residual.ensures.1 in
     rw (is, ← all_bytes done bytes i within)
     (breaks_early _ past ((done ++ take i bytes) ++ get_or bytes i 0 ∷ []) (drop (i + 1) bytes) out _ _
-    (then_moves {T = Unit {0}} {E = Failed} _ past _ _ out c.loop-byte.held.items c.take_byte.new.held.items c.loop-byte.engine.past c.take_byte.new.engine.past _ _ _ (Err c.in_err-take_byte.field-0.0) before breaks))
+    (then_moves {T = Unit {0}} {E = Failed} _ past _ _ out c.loop-byte.held.items c.take_byte.new.held.items (pasts c.loop-byte.history) (pasts c.take_byte.new.history) _ _ _ (Err c.in_err-take_byte.field-0.0) before breaks))
 
 pub loop-byte-preserved : goal.loop-byte-preserved
 loop-byte-preserved g c =
@@ -26,7 +27,7 @@ loop-byte-preserved g c =
     let before = c.loop-byte.invariant past done out r in
     let goes = c.in_ok-take_byte.ensures past (done ++ take i bytes) (out ++ before.more) before.reached in
     rw (← one_more_byte done bytes i within)
-    (then_moves {T = Unit {0}} {E = Failed} _ past _ _ out c.loop-byte.held.items c.take_byte.new.held.items c.loop-byte.engine.past c.take_byte.new.engine.past _ _ _ (Ok c.in_ok-take_byte.field-0) before goes)
+    (then_moves {T = Unit {0}} {E = Failed} _ past _ _ out c.loop-byte.held.items c.take_byte.new.held.items (pasts c.loop-byte.history) (pasts c.take_byte.new.history) _ _ _ (Ok c.in_ok-take_byte.field-0) before goes)
 
 pub returns : goal.returns
 returns g c = λ past done out r.
