@@ -2,7 +2,7 @@
 from enum import Enum
 from typing import Iterable, Iterator, Optional, Sequence
 
-from ..core.engine import LAST_TURN, Machine, is_refused
+from ..core.engine import LAST_TURN, UNDO, Machine, is_refused
 from ..core.errors import ExploreError
 from ..core.language import explanation
 from ..core.past import Event
@@ -152,36 +152,26 @@ class Trial:
 
     def __init__(self, machine: Machine, moves: Moves):
         self.moves, self.version = moves, machine.setup.version
-        self.of_turns: dict[int, list[Event]] = {}
-        for event in machine.script:
-            self.of_turns.setdefault(event.turn, []).append(event)
+        self.turns = frozenset(it.turn for it in machine.script)
 
     def change(self, twin: Machine, task: Task) -> Optional[Change]:
-        """The move of a task by the fewest turns that is looked for. The twin is given the past
-        back."""
+        """The move of a task by the fewest turns that is looked for."""
         if not task.runs:
             return None
-        if not self.moves.is_near:
-            return self.first(twin, task)
-        found = self.near(twin, task)
-        list(twin.ask_all(list(self.back(task.event))))
-        return found
+        return self.near(twin, task) if self.moves.is_near else self.first(twin, task)
 
-    def replies(
-        self, twin: Machine, task: Task, shifts: Sequence[int], after: Sequence[str] = ()
-    ) -> Iterator[Change]:
-        """The reply after each of these moves. The lines `after` are sent with them."""
+    def replies(self, twin: Machine, task: Task, shifts: Sequence[int]) -> Iterator[Change]:
+        """The reply after each of these moves, which is taken back then."""
         question, event = self.moves.question, task.event
         turns = [self.moves.turn(task, it) for it in shifts]
         edits = [f"alter {event.number} {turn} {event.text}" for turn in turns]
-        lines = [*(line for edit in edits for line in (edit, question)), *after]
+        lines = [line for edit in edits for line in (edit, question, UNDO)]
         replies = list(twin.ask_all(lines, len(lines)))
         for line, reply in zip(lines, replies):
             if is_refused(reply):
                 why = explanation(line, reply, self.version)
                 raise ExploreError(f"{line}: {reply}: {why}")
-        replied = replies[1 : 2 * len(shifts) : 2]
-        return map(Change, shifts, map(in_one_line, replied))
+        return map(Change, shifts, map(in_one_line, replies[1::3]))
 
     def first(self, twin: Machine, task: Task) -> Optional[Change]:
         """Tries all moves of a task, but of those that make the same run the nearest alone. In the
@@ -189,7 +179,7 @@ class Trial:
         shifts = list(self.nearest_of_each_run(twin, task))
         if task.way is Way.EARLIER:
             shifts.reverse()
-        replies = self.replies(twin, task, shifts, list(self.back(task.event)))
+        replies = self.replies(twin, task, shifts)
         found = [it for it in replies if self.moves.is_sought(it.reply)]
         return min(found, key=lambda it: it.shift) if found else None
 
@@ -204,7 +194,7 @@ class Trial:
             is_same_run = (
                 shift != task.runs.start
                 and min(turns) in not_noticing
-                and second not in self.of_turns
+                and second not in self.turns
                 and second < self.moves.end
             )
             if not is_same_run:
@@ -216,8 +206,10 @@ class Trial:
         if task.way is Way.DROPPED or not task.event.text.startswith("key "):
             return frozenset()
         first, last = sorted(self.moves.turn(task, it) for it in (task.runs[0], task.runs[-1]))
-        list(twin.ask_all([f"alter {task.event.number} {LAST_TURN} {task.event.text}"]))
-        return unnoticed(twin, range(first, last + 1))
+        list(twin.ask_all([f"drop {task.event.number}"]))
+        found = unnoticed(twin, range(first, last + 1))
+        list(twin.ask_all([UNDO]))
+        return found
 
     def near(self, twin: Machine, task: Task) -> Optional[Change]:
         """Tries moves that double until one changes the reply, and then those halfway to it."""
@@ -241,16 +233,6 @@ class Trial:
         """The change by one move, if it is one."""
         (found,) = self.replies(twin, task, range(shift, shift + 1))
         return found if self.moves.is_sought(found.reply) else None
-
-    def back(self, event: Event) -> Iterator[str]:
-        """The edits that put a moved event back. It comes last in its turn then: so those that came
-        after it there are moved out of the turn and back."""
-        events = self.of_turns[event.turn]
-        aside = event.turn - 1 if event.turn == LAST_TURN else event.turn + 1
-        yield f"alter {event.number} {event.turn} {event.text}"
-        for it in events[events.index(event) + 1 :]:
-            yield f"alter {it.number} {aside} {it.text}"
-            yield f"alter {it.number} {it.turn} {it.text}"
 
 
 def doubled(shifts: range) -> Iterator[int]:

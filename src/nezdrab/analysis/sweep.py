@@ -18,7 +18,7 @@ from .crew import Progress, each_of
 from .explorer import Explorer
 from .long_work import job_lines, kept_in, read_files, stopped_work
 from .script import past_lines
-from .sweep_fades import HEADING, Fades, end_of, parted, together
+from .sweep_fades import HEADING, end_of, fades_of, parted, together
 from .long_work import WorkOptions
 
 SWEEP = re.compile(
@@ -36,7 +36,7 @@ class Sweep:
 
     placed: sweeping.Sweep
     turns: range
-    fades: Optional[Fades] = None
+    faded_to: Optional[int] = None  # up to where an edit is looked at, with --fades
 
     @property
     def event(self) -> str:
@@ -72,8 +72,8 @@ class Sweep:
         if not turns:
             raise ExploreError(f"turn {match['last']} comes before turn {match['first']}")
         check_question(question)
-        fades = Fades(end_of(question)) if match["fades"] else None
-        return cls(sweeping.Sweep(machine, event, moved, [question]), turns, fades)
+        faded_to = end_of(question) if match["fades"] else None
+        return cls(sweeping.Sweep(machine, event, moved, [question]), turns, faded_to)
 
     def check(self, machine: Machine) -> None:
         """Tries the event and the question, once, on a twin."""
@@ -83,14 +83,15 @@ class Sweep:
     def row(self, twin: Machine, turn: int) -> str:
         """The reply with the event at this turn, and with --fades where the edit fades."""
         ((reply,),) = self.placed.part(twin, [turn])
+        if self.faded_to is None:
+            return in_one_line(reply)
         word = "at" if self.moved is None else f"alter {self.moved.number}"
-        fades = self.fades.of(twin, f"{word} {turn} {self.event}") if self.fades else ""
-        return in_one_line(reply) + fades
+        return in_one_line(reply) + fades_of(twin, f"{word} {turn} {self.event}", self.faded_to)
 
     def heading(self, machine: Machine) -> str:
         """What results are of: the event, the question and the past. The turns may be others."""
         moved = f" moved from turn {self.moved.turn}" if self.moved else ""
-        heading = HEADING if self.fades else "# sweep "
+        heading = "# sweep " if self.faded_to is None else HEADING
         return f"{heading}{self.event}{moved}: {self.question}, past {digest_of(machine)}"
 
 
@@ -176,15 +177,11 @@ def swept(machine: Machine, sweep: Sweep, results: Results, hands: int) -> Itera
         return
     hands = min(hands, count)
     with Progress(count, "turns") as progress:
-        try:
-            stride = sweep.placed.stride(sweep.turns[0])
-            for turn, reply in each_of(machine, wanted, sweep.row, hands, stride):
-                progress.step()
-                results.add(turn, reply)
-                yield f"{turn} {reply}"
-        finally:
-            if sweep.fades:
-                sweep.fades.close()
+        stride = sweep.placed.stride(sweep.turns[0])
+        for turn, reply in each_of(machine, wanted, sweep.row, hands, stride):
+            progress.step()
+            results.add(turn, reply)
+            yield f"{turn} {reply}"
 
 
 def sweep_lines(
@@ -205,7 +202,7 @@ def parts_of(machine: Machine, sweep: Sweep) -> Iterator[str]:
     event = sweep.event
     if sweep.moved:  # the session of the parts numbers its events anew
         event = str(machine.script.index(sweep.moved) + 1)
-    fades = "--fades " if sweep.fades else ""
+    fades = "" if sweep.faded_to is None else "--fades "
     size = -(-len(sweep.turns) // JOBS)
     for at in range(0, len(sweep.turns), size):
         part = sweep.turns[at : at + size]

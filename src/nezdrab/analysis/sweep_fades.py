@@ -24,27 +24,14 @@ def end_of(question: str) -> int:
     return min(end, LAST_TURN)
 
 
-class Fades:
-    """Asks about edits. Each twin of a sweep has a further one for it, in which none is made."""
-
-    def __init__(self, end: int):
-        self.end = end
-        self.unedited: dict[int, Machine] = {}
-
-    def of(self, twin: Machine, edit: str) -> str:
-        """Where the edit fades, to be put behind a reply."""
-        if id(twin) not in self.unedited:
-            self.unedited[id(twin)] = twin.twin()
-        fade = fade_of(self.unedited[id(twin)], edit, self.end)
-        if fade is None:
-            raise ExploreError(f"{edit}: the program doesn't say whether it fades")
-        if fade.turn is None:
-            return f"; not the old run again before turn {self.end}"
-        return f"; the old run again from turn {fade.turn} on"
-
-    def close(self) -> None:
-        for machine in self.unedited.values():
-            machine.close()
+def fades_of(twin: Machine, edit: str, end: int) -> str:
+    """Where an edit of this past fades, to be put behind a reply."""
+    fade = fade_of(twin, edit, end)
+    if fade is None:
+        raise ExploreError(f"{edit}: the program doesn't say whether it fades")
+    if fade.turn is None:
+        return f"; not the old run again before turn {end}"
+    return f"; the old run again from turn {fade.turn} on"
 
 
 def parted(heading: str, reply: str) -> tuple[str, Optional[int]]:

@@ -9,7 +9,7 @@ from .errors import ExploreError
 from .interrupts import INTERRUPTS
 from .language import explanation, is_edit
 from .options import faults_of, options_of_words
-from .past import Event, Made, Setup, without_zeros
+from .past import Event, Setup, without_zeros
 from .program import Program, ProgramEnded, TimedOut
 from .replies import SPACES, Devices, LastWrite, Mode, Pages, Registers, Turn, TurnAccesses
 from .replies import accesses_of, listed, text_of, turns_of, words_of
@@ -24,6 +24,7 @@ MOST_WORDS = 256
 # How many lines are sent before their replies are looked at: those with long replies, and others.
 SENT_AHEAD, SHORT_SENT_AHEAD = 16, 1000
 BLOCK_BYTES, WORD_BYTES, TURNS_AT_ONCE = 50_000, 16, 400
+UNDO = "undo"  # the line that takes the last edit back
 OF_EVENTS = ("at", "alter", "drop")  # the edits that change the events alone
 Item = TypeVar("Item")
 
@@ -101,7 +102,6 @@ class Machine:
     def __post_init__(self) -> None:
         self._setup: Optional[Setup] = None
         self._script: Optional[list[Event]] = None
-        self.is_ahead = False  # whether the program would give a later number to an event
         self._running: Optional[Program] = self._started()
 
     def begin(self) -> Program:
@@ -141,7 +141,6 @@ class Machine:
         """Ends the program. The next use starts it again, with all edits: only the states that it
         kept are lost."""
         self._setup = self._script = None
-        self.is_ahead = False
         if self._running is not None:
             running, self._running = self._running, None
             self.asked.turn = 0
@@ -176,8 +175,6 @@ class Machine:
     def edit_all(self, lines: Sequence[str]) -> list[str]:
         """The replies to edits, and to questions between them. All edits that were taken are kept,
         or none if the program ends."""
-        if self.is_ahead and any(first_word(it) == "at" for it in lines):
-            self.restart()
         self.begin()  # here, where Ctrl-C can stop it
         with INTERRUPTS.held():
             replies = list(self.ask_all(lines, SHORT_SENT_AHEAD))
@@ -203,20 +200,18 @@ class Machine:
             yield
 
     def take_back(self, count: int) -> None:
-        """Takes the last edits back, as if they hadn't been made: by edits, if these give exactly
-        the past of before, or else by another program."""
+        """Takes the last edits back, as if they hadn't been made. The program refuses to take
+        `version 2` back: then the next use starts it again, with the edits that are left."""
         with INTERRUPTS.held():
-            now = Made.by(self.journal, self.replies)
-            del self.journal[-count:], self.replies[-count:]
+            left = len(self.journal) - count
+            del self.journal[left:], self.replies[left:]
             if self.file is not None:
                 self.file.take_back(count)
-            past = Made.by(self.journal, self.replies)
-            edits = now.edits_to(past) if self._running else None
+            self._setup = self._script = None
+            self.asked.turn = 0  # the last question was about another past
             with suppress(ExploreError):
-                if edits is not None and all(map(is_taken, self.ask_all(edits, SHORT_SENT_AHEAD))):
-                    self._setup = self._script = None
-                    self.asked.turn = 0  # the last question was about another past
-                    self.is_ahead = self.is_ahead or now.given > past.given
+                undone = self.ask_all([UNDO] * count, SHORT_SENT_AHEAD)
+                if self._running and all(map(is_taken, undone)):
                     return
             self.restart()
 

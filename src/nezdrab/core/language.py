@@ -71,7 +71,8 @@ LINES_OF_EIGHT_DRIVES = {word_of(it): it for it in sessions.LANGUAGE[SINCE_VERSI
 FORMS = {word: rest_of(it) for word, it in LINES.items()}
 SUMMARIES = {word: it.summary for word, it in LINES.items()}
 # Lines of searches without a turn, such as `setup`.
-FINDING = [it for it in sessions.SEARCHES if it.kind != sessions.STEP]  # not undo and redo
+FINDING = [it for it in sessions.SEARCHES if it.kind != sessions.STEP]
+STEPS = frozenset(word_of(it) for it in sessions.SEARCHES) - {word_of(it) for it in FINDING}
 LISTS = {it.form: it.summary for it in FINDING if " " not in it.form}
 SEARCHES = frozenset(word_of(it) for it in FINDING) - LISTS.keys()
 EDITS = frozenset(it.decode() for it in sessions.EDITS)

@@ -21,7 +21,7 @@ from . import sessions
 from .engine import LAST_TURN, MOST_TURNS_OF_A_TRAIL, MOST_WORDS, Machine as Engine
 from .errors import ExploreError
 from .found import Found, Transfer, readable
-from .language import is_edit
+from .language import STEPS, is_edit
 from .past import Event, Setup
 from .replies import Devices, LastWrite, Mode, Pages, Registers, Turn, TurnAccesses, WordRead
 from .replies import accesses_of, listed, text_of, turns_of, words_of
@@ -115,6 +115,8 @@ def line(text: str) -> Question[str]:
     """A line of the language that asks; its answer is the reply, without its last line feed."""
     if is_edit(text):
         raise ExploreError(f"{text}: an edit is no question; Machine.edit makes it")
+    if sessions.first_word(text) in STEPS:
+        raise ExploreError(f"{text}: this is no question")
     if not sessions.has_reply(text.encode(errors="surrogateescape")):
         raise ExploreError(f"{text!r} is no line that gets a reply")
     return one(text, str)

@@ -1,7 +1,7 @@
 """The events that a reply needs: others are left out as long as it stays."""
 from typing import Callable, Iterator, Sequence
 
-from .engine import LAST_TURN, Machine
+from .engine import LAST_TURN, UNDO, Machine
 from .past import Event
 from .sweeping import replies_to
 from .values import dataclass, field
@@ -14,8 +14,8 @@ MOST_REMEMBERED = 256  # events of what was tried in vain
 class Reduction:
     """Leaves events out on a twin of a machine, and asks there. `kept` is the fewest by now with
     which the replies to the lines are wanted: at first all that may be left out. An event that is
-    left out stands at the end of the run, so it keeps its number: no question is about what comes
-    after that. Its turn is before the end, so none of these stood there."""
+    left out stands at the end of the run: no question is about what comes after that. Its turn is
+    before the end."""
 
     twin: Machine
     lines: Sequence[str]
@@ -23,14 +23,7 @@ class Reduction:
     kept: list[Event]
     tried: int = 0
     is_least: bool = False  # none of those that are kept can be left out
-    of_turns: dict[int, list[Event]] = field(default_factory=dict)
     in_vain: set[frozenset[Event]] = field(default_factory=set)
-
-    def __post_init__(self) -> None:
-        self.there = frozenset(self.kept)
-        for event in self.twin.script:
-            self.of_turns.setdefault(event.turn, []).append(event)
-        self.others = frozenset(self.twin.script) - self.there
 
     def steps(self) -> Iterator[tuple[int, int]]:
         """Tries to leave out all events, halves of them, and so on down to one by one, until no
@@ -52,29 +45,21 @@ class Reduction:
             yield done, len(starts)
 
     def gives(self, kept: Sequence[Event]) -> bool:
-        """Whether the replies are wanted with these events, and with those that stay anyway. Few
-        events that were tried in vain aren't tried again."""
+        """Whether the replies are wanted with these of the events that are kept, and with those
+        that stay anyway; if not, the others are there again. Few events that were tried in vain
+        aren't tried again."""
         wanted = frozenset(kept)
         if wanted in self.in_vain:
             return False
         self.tried += 1
-        edits, self.there = list(self.edits_to(wanted)), wanted
+        edits = [away(it) for it in self.kept if it not in wanted]
         replies = replies_to(self.twin, [*edits, *self.lines])
         found = self.is_wanted(replies[len(edits) :])
-        if not found and len(wanted) <= MOST_REMEMBERED:
-            self.in_vain.add(wanted)
+        if not found:
+            replies_to(self.twin, [UNDO] * len(edits))
+            if len(wanted) <= MOST_REMEMBERED:
+                self.in_vain.add(wanted)
         return found
-
-    def edits_to(self, wanted: frozenset[Event]) -> Iterator[str]:
-        """The edits that leave these of the events in the script. One that comes back is the last
-        of its turn: so those that come after it there go too, and come back behind it."""
-        gone, back = self.there - wanted, wanted - self.there
-        yield from (away(it) for it in gone)
-        for turn in {it.turn for it in back}:
-            events = [it for it in self.of_turns[turn] if it in wanted or it in self.others]
-            for it in events[min(map(events.index, back.intersection(events))) :]:
-                yield from [] if it in back else [away(it)]
-                yield f"alter {it.number} {it.turn} {it.text}"
 
 
 def away(event: Event) -> str:

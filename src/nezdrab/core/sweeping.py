@@ -10,7 +10,7 @@ from itertools import chain, islice
 from typing import Callable, Iterable, Iterator, Optional, Sequence, SupportsIndex, TypeVar, Union
 
 from .asked import stride_before
-from .engine import SHORT_SENT_AHEAD, Machine as Engine, Refused, is_refused
+from .engine import SHORT_SENT_AHEAD, UNDO, Machine as Engine, Refused, is_refused
 from .errors import ExploreError
 from .language import explanation
 from .past import Event
@@ -28,8 +28,7 @@ class Sweep:
     event: str
     moved: Optional[Event]
     lines: Sequence[str]
-    numbers: dict[int, str] = field(default_factory=dict)  # of the new event, by its twin
-    twins: dict[int, Engine] = field(default_factory=dict)  # those that aren't closed, by id
+    twins: list[Engine] = field(default_factory=list)
 
     @classmethod
     def of(cls, engine: Engine, event: Union[SupportsIndex, str], lines: Sequence[str]) -> Sweep:
@@ -66,7 +65,8 @@ class Sweep:
         with ThreadPoolExecutor(hands) as pool, self.ended():
             for number, part in enumerate(chain([first] if first else [], parts)):
                 if number < hands:
-                    free.put(self.twin(self.engine, self.stride(first[0])))
+                    self.twins.append(self.engine.twin(stride=self.stride(first[0])))
+                    free.put(self.twins[-1])
                 asked.append((part, pool.submit(replies, part)))
                 if len(asked) > hands:
                     part, done = asked.popleft()
@@ -78,52 +78,32 @@ class Sweep:
         """The stride of twins whose first turn is this one."""
         return stride_before(turn, self.lines[0])
 
-    def twin(self, engine: Engine, stride: Optional[int] = None) -> Engine:
-        twin = engine.twin(stride=stride)
-        self.twins[id(twin)] = twin
-        return twin
-
     @contextmanager
     def ended(self) -> Iterator[None]:
         """A part at whose end all twins end, with what they do."""
         try:
             yield
         finally:
-            for twin in list(self.twins.values()):
+            for twin in self.twins:
                 twin.close()
 
     def part(self, twin: Engine, turns: Sequence[int]) -> list[list[str]]:
-        """The replies with the event at each of these turns. Back in its own turn a moved event
-        would be the last of its events: there a further twin has it unmoved."""
+        """The replies with the event at each of these turns, after which the twin has its past
+        back."""
         twin.seconds = self.engine.seconds
-        own = self.moved.turn if self.moved else None
-        moves = [it for it in turns if it != own]
-        found = dict(zip(moves, self.asked(twin, moves)))
-        if own is not None and own in turns:
-            unmoved = self.twin(twin)
-            try:
-                found[own] = replies_to(unmoved, self.lines)
-            finally:
-                unmoved.close()
-                del self.twins[id(unmoved)]
-        return [found[it] for it in turns]
+        edits = [self.edits(it) for it in turns]
+        parts = [[*it, *self.lines, *[UNDO] * len(it)] for it in edits]
+        replies = iter(replies_to(twin, [line for part in parts for line in part]))
+        found = [[next(replies) for _ in part] for part in parts]
+        return [it[len(of) : len(of) + len(self.lines)] for it, of in zip(found, edits)]
 
-    def asked(self, twin: Engine, turns: Sequence[int]) -> list[list[str]]:
-        """The replies with the event put at each of these turns."""
-        if not turns:
-            return []
-        edits = [f"{self.edit(twin, turns[0])} {it} {self.event}" for it in turns]
-        replies = iter(replies_to(twin, [line for it in edits for line in (it, *self.lines)]))
-        return [[next(replies) for _ in (it, *self.lines)][1:] for it in edits]
-
-    def edit(self, twin: Engine, turn: int) -> str:
-        """The beginning of the line that moves the event. A twin gets a new event first."""
-        if self.moved is not None:
-            return f"alter {self.moved.number}"
-        if id(twin) not in self.numbers:
-            (reply,) = replies_to(twin, [f"at {turn} {self.event}"])
-            self.numbers[id(twin)] = reply.split()[1]
-        return f"alter {self.numbers[id(twin)]}"
+    def edits(self, turn: int) -> list[str]:
+        """The edit that puts the event at this turn. It stays where it is in its own: moved there,
+        it would be the last of its events."""
+        if self.moved is None:
+            return [f"at {turn} {self.event}"]
+        is_there = turn == self.moved.turn
+        return [] if is_there else [f"alter {self.moved.number} {turn} {self.event}"]
 
 
 def replies_to(twin: Engine, lines: Sequence[str]) -> list[str]:
