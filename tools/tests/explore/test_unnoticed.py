@@ -108,9 +108,9 @@ class Fewer(OnMachine):
         found = []
         for at, nothing in enumerate((False, True)):
 
-            def counted(trial, twin, task, shifts, after=(), at=at):  # type: ignore[no-untyped-def]
+            def counted(trial, twin, task, shifts, at=at):  # type: ignore[no-untyped-def]
                 counts[at] += len(shifts)
-                return replies(trial, twin, task, shifts, after)
+                return replies(trial, twin, task, shifts)
 
             with mock.patch.object(Trial, "replies", counted):
                 if nothing:
