@@ -1,11 +1,11 @@
-"""undoing [FOLDER..]: runs each stored session of these folders on search, with each edit taken back
-and made again at once: while it is taken back, the questions that were asked since the edit before
-it are asked again. At the end all edits are taken back, one by one, and made again, and the last
-questions asked once more. The replies must be those of the session, and `undo` and `redo` refused
-where no edit is left.
+"""undoing [FOLDER..]: runs each stored session of these folders on search, with each edit taken
+back and made again at once. While it is taken back, the questions that were asked since the edit
+before it are asked again. At the end all edits are taken back, one by one, and made again, and the
+last questions asked once more. The replies must be those of the session, and `undo` and `redo`
+refused where no edit is left.
 
-A session is skipped if it has no reply, or not one for each of its lines, and if it asks for help or
-has a line of a search. The last line is 'N passed, M failed'."""
+A session is skipped if it has no reply, or not one for each of its lines, and if it asks for help
+or has a line of a search. The last line is 'N passed, M failed'."""
 import sys
 from typing import Optional
 
@@ -20,7 +20,7 @@ MOST_ASKED = 4
 
 def is_edit(line: bytes, reply: bytes) -> bool:
     is_taken = reply != b"" and not reply.startswith(b"refused")
-    return is_taken and sessions.first_word(line) in sessions.EDITS
+    return is_taken and sessions.first_word(line).strip() in sessions.EDITS
 
 
 def with_undone(answered: Answered) -> tuple[bytes, bytes]:
