@@ -3,7 +3,7 @@
 import { keepEdits, sumOf } from "./kept.js";
 import { checkPlace, patchesOf } from "./loading.js";
 import { element, field, itemsOf, make } from "./page.js";
-import { isEdit } from "./past.js";
+import { isEdit, wordsOfLine } from "./past.js";
 import { isRefused } from "./replies.js";
 import { Priority } from "./run.js";
 import { itemsOf as itemsOfLedger, switchItem } from "./switching.js";
@@ -48,11 +48,13 @@ export class Edits {
     return this.last;
   }
 
-  /** A line of the user: an edit, or a question.
+  /** A line of the user: an edit, undo or redo, or a question.
       @param {string} line */
   do(line) {
-    const { app } = this;
+    const { app } = this, words = wordsOfLine(line).join(" ");
     if (isEdit(line)) return this.edit(line);
+    if (words === "undo") return this.undo();
+    if (words === "redo") return this.redo();
     return app.attempt(() => this.askQuestion(line));
   }
 

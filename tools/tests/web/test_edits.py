@@ -176,6 +176,15 @@ class Lines(PageCase):
         self.wait_text("#reply", "undone")
         self.assertEqual([*shown(), self.type_line("events")], [*before, events])
 
+    def test_typed_undo_and_redo_are_those_of_the_buttons(self) -> None:
+        before = self.type_line("events")
+        self.type_line("drop 15")
+        self.assertIn("undone", self.type_line("undo"))
+        self.assertEqual(self.edits(), [])
+        self.assertEqual(self.type_line("events"), before)
+        self.assertIn("made again", self.type_line("redo "))
+        self.assertEqual(self.edits(), ["drop 15"])
+
     def test_edits_of_before_a_machine_that_begins_anew_are_made_again(self) -> None:
         for line in ("version 2", "drop 15"):
             self.type_line(line)
