@@ -20,6 +20,7 @@ IMPORT = re.compile(r'^import \{([^}]*)\} from "\./([a-z-]+\.js)";\n', re.M)
 EXPORT = re.compile(r"^export (?=(?:async )?(?:function|class|const) (\w+))", re.M)
 # A comment alone in its lines. One that code follows stays.
 COMMENT = re.compile(r"^[ \t]*(?:/\*(?:(?!\*/).)*\*/|//[^\n]*)[ \t]*\n", re.M | re.S)
+INDENT = re.compile(r"^[ \t]+", re.M)
 OTHER_FORMS = re.compile(r"^(?:import|export)\b.*|\bimport(?:\(|\.meta)", re.M)
 ENDS_SCRIPT = re.compile(r"</script|<!--", re.I)
 SCRIPT = re.compile(r'<script type="module" src="([a-z-]+\.js)"></script>')
@@ -65,10 +66,17 @@ def in_order(folder: Path, entry: str) -> list[str]:
     return found
 
 
+def without_indent(text: str) -> str:
+    """A module's text, its lines not indented, unless one may be a part of a longer literal."""
+    lines = text.split("\n")
+    are_whole = all(it.count("`") % 2 == 0 and not it.endswith("\\") for it in lines)
+    return INDENT.sub("", text) if are_whole else text
+
+
 def as_function(folder: Path, name: str) -> str:
-    """A module's text, without the lines of comments that web/ has, as a function that returns what
-    the module exports."""
-    text = COMMENT.sub("", text_of(folder / name))
+    """A module's text, without the lines of comments and the indents that web/ has, as a function
+    that returns what the module exports."""
+    text = without_indent(COMMENT.sub("", text_of(folder / name)))
     exported = EXPORT.findall(text)
     text = EXPORT.sub("", IMPORT.sub(taken, text))
     other = OTHER_FORMS.search(text) or ENDS_SCRIPT.search(text)
