@@ -68,7 +68,7 @@ class BadInput(Case):
         self.explore("", "--disk", "disk", "--units", "31", "my.session")
 
     def test_an_image_that_goes_away(self) -> None:
-        """The program that is started again refuses it."""
+        """The program that is started again, since it takes back no `version 2`, refuses it."""
         disk, pipe = self.folder / "disk", self.folder / "pipe"
         disk.write_bytes(b"\7\0")
         os.mkfifo(pipe)
@@ -79,7 +79,7 @@ class BadInput(Case):
 
         thread = threading.Thread(target=remove)
         thread.start()
-        written = self.explore("disk 5 5\nsymbols pipe\nundo\nregs 0\n", "--disk", "disk")
+        written = self.explore("version 2\nsymbols pipe\nundo\nregs 0\n", "--disk", "disk")
         thread.join(SECONDS)
         said = f"regs: the program ended with status 3: search: input or output; --disk {disk}: No "
         self.assertIn(said, written)
