@@ -14,7 +14,7 @@ TOOLS = [
     *("pdp11", "tools/start", "tools/program", "tools/build", "tools/sources-sum"),
     *("VERSION", "CHANGELOG.md", "disassemble", "tools/portable", "NOTICES"),
     *("tools/release", ".ci/run", "tools/web", "tools/bundle.py", "tools/page_examples.py"),
-    *("tools/sessions.py", "tools/hardware.py", "tools/made_of_table.py"),
+    *("tools/sessions.py", "tools/hardware.py", "tools/line_table.py", "tools/made_of_table.py"),
     *("search", "explore", "tools/start-explore", "tools/python_needed.py", "tools/refuse-each"),
     *(str(it.relative_to(ROOT)) for it in sorted(ROOT.glob("src/nezdrab/**/*.py"))),
     *(str(it.relative_to(ROOT)) for it in sorted(ROOT.glob("tools/webassembly/*.*"))),
