@@ -92,7 +92,7 @@ class Compared:
     def __init__(self, strides: list[str]) -> None:
         self.strides = strides
         self.passed = self.failed = self.undecided = 0
-        searches = [it for it in sessions.SEARCHES if it.kind != sessions.STEP]  # `undoing` has these
+        searches = [it for it in sessions.SEARCHES if it.kind != sessions.STEP]
         self.forms = {it.form: re.compile(sessions.pattern_of(it)) for it in searches}
 
     def session(self, program: str, session: sessions.Session) -> None:
