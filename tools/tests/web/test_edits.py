@@ -179,11 +179,12 @@ class Lines(PageCase):
     def test_typed_undo_and_redo_are_those_of_the_buttons(self) -> None:
         before = self.type_line("events")
         self.type_line("drop 15")
-        self.assertIn("undone", self.type_line("undo"))
-        self.assertEqual(self.edits(), [])
-        self.assertEqual(self.type_line("events"), before)
-        self.assertIn("made again", self.type_line("redo "))
-        self.assertEqual(self.edits(), ["drop 15"])
+        for line, said, edits in (("undo", "undone", []), ("redo ", "made again", ["drop 15"])):
+            self.fill("#line", line)
+            self.browser.key("Enter")
+            self.wait_text("#reply", said)
+            self.assertEqual(self.edits(), edits)
+            self.assertEqual(self.type_line("events") == before, edits == [])
 
     def test_edits_of_before_a_machine_that_begins_anew_are_made_again(self) -> None:
         for line in ("version 2", "drop 15"):
