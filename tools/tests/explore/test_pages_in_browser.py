@@ -93,9 +93,10 @@ class InBrowser(InChromium, Case):
         self.check(System(LEDGER, f"{SYMBOLS}{edits}", 128_066, 238_614))
         self.open_tab("machine")
         self.assertIn("BUSY+4", self.browser.text("#instructions"))
-        self.fill("#watch", "disk 0")
-        self.browser.key("Enter")
         self.wait_text("#words", "the ledger (disk 0000000)")
+        self.fill("#watch", "2000")
+        self.browser.key("Enter")
+        self.wait_text("#words", "QUEUE (core 002000)")
 
     def test_a_mapped_program(self) -> None:
         words = ("examples/page-somewhere-else.session",)
