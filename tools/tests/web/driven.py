@@ -130,8 +130,8 @@ class Driven(ABC):
         """The middle of an element, once a user could press it there: it is shown and stands still,
         and nothing lies over it. `then` is a function of the page that takes the element."""
         end = time.monotonic() + seconds
-        self.look_at(selector)
         while True:
+            self.look_at(selector)  # each time: it may come only now, in another tab
             found = self.value(f"{PRESSED}({json.dumps(selector)}, {then})")
             if not isinstance(found, str):
                 return list(found)
