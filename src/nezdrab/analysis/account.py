@@ -1,7 +1,9 @@
 """The steps of a value as lines, like an account book: what it is made of stands below it, and the
 part with the most behind it goes on at the same indent."""
-from typing import Iterable, Iterator, Sequence
+from typing import Iterable, Iterator, NamedTuple, Optional, Sequence, Union
 
+from ..core.engine import SHORT_SENT_AHEAD
+from ..core.replies import Registers, words_of
 from ..core.values import dataclass, field
 from .cells import CODES, DRIVES, byte_of_drive, is_core, is_of_drive, is_register, name_of
 from .explorer import Explorer
@@ -32,18 +34,44 @@ def ranges(numbers: Sequence[int]) -> str:
     return ", ".join(shown) or "none"
 
 
+class Place(NamedTuple):
+    """A cell before a turn."""
+
+    cell: int
+    turn: int
+
+
+class Head(NamedTuple):
+    """The beginning of a line: a name, or a cell with its value, and how often it was copied."""
+
+    of: Union[str, Place]
+    copied: str
+
+
 @dataclass
 class Line:
     """A line, which ends with what its step is. Before it stands a run, which its step went into,
     if any."""
 
     depth: int
-    head: str
+    head: Head
     step: Step
     written: int  # the cell that the step wrote
-    run_head: str = ""
+    run_head: Optional[Head] = None
     run: Sequence[Step] = ()
     note: str = ""
+
+    @property
+    def result(self) -> Place:
+        """What the step gave to the cell that it wrote."""
+        return Place(self.written, self.step.turn + 1)
+
+    def places(self) -> Iterator[Place]:
+        """Those whose values it shows."""
+        yield from [self.result] if self.step.is_write else []
+        for it in (self.head, self.run_head):
+            if it is not None and not isinstance(it.of, str):
+                yield it.of
 
 
 @dataclass
@@ -53,8 +81,9 @@ class Account:
     explorer: Explorer
     steps: Steps
     lines: list[Line] = field(default_factory=list)
-    shown: set[Step] = field(default_factory=set)
+    above: set[Step] = field(default_factory=set)  # which have lines
     texts: dict[int, str] = field(default_factory=dict)
+    values: dict[tuple[int, int], str] = field(default_factory=dict)
     is_cut: bool = False
 
     def __post_init__(self) -> None:
@@ -67,22 +96,43 @@ class Account:
     def name(self, cell: int) -> str:
         return name_of(cell, self.machine.setup.version == 2)
 
+    def question(self, at: Place) -> str:
+        """The line that tells the word of a cell, or an empty text."""
+        if is_of_drive(at.cell):
+            byte = byte_of_drive(at.cell)
+            return self.machine.disk_line(at.turn, byte.drive, byte.word)
+        if is_core(at.cell):
+            return f"mem {at.turn} {at.cell & ~1:o} 1"
+        return f"regs {at.turn}" if is_register(at.cell) or CODES <= at.cell < DRIVES else ""
+
+    def in_reply(self, at: Place, reply: str) -> str:
+        """The value of a cell in the reply to its question."""
+        if is_of_drive(at.cell) or is_core(at.cell):
+            return f"{words_of(reply)[0]:06o}"
+        registers = Registers.of(reply)
+        if is_register(at.cell):
+            return f"{registers.words[self.name(at.cell)]:06o}"
+        is_code = at.cell < CODES + 4
+        return str(registers.ps >> at.cell - CODES & 1) if is_code else f"{registers.ps:06o}"
+
+    def know_values(self, places: Iterable[Place]) -> None:
+        """Asks together for the values before these turns, upwards."""
+        asked = {it: self.question(it) for it in {*places} - self.values.keys()}
+        ordered = sorted((it for it in asked if asked[it]), key=lambda it: it.turn)
+        replies = self.machine.read_all([asked[it] for it in ordered], SHORT_SENT_AHEAD)
+        self.values.update((it, "") for it in asked)
+        self.values.update((it, self.in_reply(it, reply)) for it, reply in zip(ordered, replies))
+
     def value(self, cell: int, turn: int) -> str:
         """The value of the word of a cell before a turn, if a question tells it."""
-        if is_of_drive(cell):
-            at = byte_of_drive(cell)
-            return f"{self.machine.disk_word(turn, at.drive, at.word):06o}"
-        if is_core(cell):
-            return f"{self.machine.word(turn, cell & ~1):06o}"
-        if is_register(cell):
-            return f"{self.machine.registers(turn).words[self.name(cell)]:06o}"
-        if CODES <= cell < DRIVES:
-            ps = self.machine.registers(turn).ps
-            return str(ps >> cell - CODES & 1) if cell < CODES + 4 else f"{ps:06o}"
-        return ""
+        self.know_values([Place(cell, turn)])
+        return self.values[cell, turn]
 
-    def named(self, cell: int, turn: int) -> str:
-        return f"{self.name(cell)} {self.value(cell, turn)}".rstrip()
+    def shown(self, head: Head) -> str:
+        if isinstance(head.of, str):
+            return f"{head.of}{head.copied} <- "
+        named = f"{self.name(head.of.cell)} {self.values[head.of]}".rstrip()
+        return f"{named}{head.copied} <- "
 
     def copied(self, copies: Sequence[Step]) -> str:
         disk = sorted(it.turn for it in copies if it.kind == Kind.MOVED)
@@ -136,13 +186,12 @@ class Account:
 
     def made(self, line: Line) -> str:
         """What the step of a line is, with the value that it gave."""
-        is_write = line.step.is_write
-        value = self.value(line.written, line.step.turn + 1) if is_write else ""
+        value = self.values[line.result] if line.step.is_write else ""
         return f"{self.what(line.step)}{f': {value}' if value else ''}"
 
     # The tree
 
-    def add(self, source: Source, depth: int, head: str) -> None:
+    def add(self, source: Source, depth: int, head: Head) -> None:
         """A step and what it is made of."""
         while not self.is_full(depth):
             step = source.step
@@ -162,10 +211,10 @@ class Account:
         """What the step of a line is made of, unless that stands above or wasn't followed."""
         step = line.step
         sources = self.steps.sources(step) if step.is_write else []
-        if step in self.shown and sources:
+        if step in self.above and sources:
             line.note = ", as above"
             return []
-        self.shown.add(step)
+        self.above.add(step)
         if step in self.steps.left:
             line.note = NOT_WHOLE if sources else NOT_FOLLOWED
         return sources
@@ -175,15 +224,15 @@ class Account:
         self.is_cut = self.is_cut or is_full
         return is_full
 
-    def head(self, step: Step, source: Source) -> str:
-        return f"{self.named(source.cell, step.turn)}{self.copied(source.copies)} <- "
+    def head(self, step: Step, source: Source) -> Head:
+        return Head(Place(source.cell, step.turn), self.copied(source.copies))
 
     def add_run(self, line: Line) -> bool:
         """One value that goes through many operations before this one: one line for all."""
         run = self.steps.run_of_one(line.step)[1:]
         if len(run) < LONG_RUN:
             return False
-        self.shown.update(run)
+        self.above.update(run)
         (first,), (source,) = map(self.steps.sources, (line.step, run[-1]))
         begin = len(self.lines)
         self.add(source, line.depth + 1, self.head(run[-1], source))
@@ -199,15 +248,17 @@ class Account:
         others = " and others" if len(names) > MOST_NAMES else ""
         shown = f"{last}{' '.join(names[:MOST_NAMES])}{others}"
         turns = f"turns {run[-1].turn} to {run[0].turn}"
-        return f"{line.run_head}{len(run)} operations on it ({shown}) in {turns}, from "
+        head = self.shown(line.run_head) if line.run_head else ""
+        return f"{head}{len(run)} operations on it ({shown}) in {turns}, from "
 
     def written(self) -> Iterator[str]:
         """The lines as they are shown."""
+        self.know_values(place for it in self.lines for place in it.places())
         self.know(it.step for it in self.lines)
         self.know(step for it in self.lines for step in it.run[:LOOKED_AT])
         for it in self.lines:
             run = self.run_in_words(it) if it.run else ""
-            yield f"{'  ' * it.depth}{run}{it.head}{self.made(it)}{it.note}"
+            yield f"{'  ' * it.depth}{run}{self.shown(it.head)}{self.made(it)}{it.note}"
         if self.is_cut:
             yield "  .. further lines aren't shown; what follows counts all steps"
 

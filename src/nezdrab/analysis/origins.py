@@ -2,9 +2,10 @@
 made of cells before it, down to events and to what is there since power-up."""
 import bisect
 import heapq
-from collections import defaultdict
+import itertools
+from collections import Counter, defaultdict
 from enum import IntEnum
-from typing import Iterator, NamedTuple, Optional, Sequence
+from typing import Iterable, Iterator, NamedTuple, Optional, Sequence
 
 from ..core.engine import Machine
 from ..core.errors import ExploreError
@@ -14,11 +15,13 @@ from .cells import INPUTS, KEPT, PC, PRB, byte_of_drive, drive_cell, first_of, i
 from .cells import is_on_bus
 from .crew import Progress
 from .labels import ADDRESS_OF_A_TRANSFER, events_with_data
+from .last_writes import DISK, LastWrites
 from .operands import Flow
 from .transfers import Transfer, transfers_in
+from .turn_cycles import Mappings, NotFollowed
 from .turn_flow import Flows
 
-BLOCK, NEAR, FEWEST, WINDOW_DELAYS, WINDOW_TURNS = 64, 8, 16, 32, 1000
+BLOCK, MOST_BLOCKS, MOST_SINGLES, WINDOW_DELAYS, WINDOW_TURNS = 16, 8, 3, 32, 1000
 # How far back one write is looked for: in turns that are decoded, and in looks at the disk.
 MOST_TURNS_BACK, MOST_LOOKS = 20_000, 20_000
 
@@ -74,19 +77,17 @@ class Graph:
 
 
 class Origins:
-    """Finds the origins of cells before turn `end`. Turns are decoded when they are needed: few for
-    a write to core, whose turn is known, and a block if a write of a register is looked for. If most
-    of the few are decoded again so, blocks are decoded at once."""
+    """Finds the origins of cells before turn `end`. Turns are decoded when they are needed: single
+    ones for writes to core, whose turns are known, and a block if a write of a register is looked
+    for, or if many of its turns were decoded."""
 
     def __init__(self, machine: Machine, end: int, places: bool = False):
         self.machine, self.end, self.places = machine, end, places
         self.flows: dict[int, Flow] = {}
-        self.few: set[int] = set()  # blocks of which some turns are decoded, and not all
-        self.decoded_again = 0
+        self.mappings, self.writes = Mappings(), LastWrites(machine)
+        self.singles: Counter[int] = Counter()  # turns that were decoded singly, by their block
         self.written: dict[int, dict[int, list[tuple[int, int]]]] = {}
-        self.lasts: dict[tuple[int, int], Optional[tuple[int, str]]] = {}
         self.windows: dict[int, list[Transfer]] = {}
-        self.moved_in: dict[int, Transfer] = {}
         self.window = max(WINDOW_TURNS, WINDOW_DELAYS * machine.setup.delays["disk"])
         self.brought: dict[int, list[tuple[int, int]]] = defaultdict(list)
         for event in events_with_data(machine):
@@ -97,24 +98,50 @@ class Origins:
 
     def flow(self, turn: int) -> Flow:
         if turn not in self.flows:
-            if 2 * self.decoded_again > max(FEWEST, len(self.few)):
-                self.decode(turn - turn % BLOCK)
+            block = turn - turn % BLOCK
+            if self.singles[block] >= MOST_SINGLES:
+                self.decode(block)
             else:
-                begin = turn - turn % NEAR
-                few = Flows(self.machine, range(begin, min(begin + NEAR, self.end)))
-                self.flows.update((it.turn, it) for it in few)
-                self.few.add(turn - turn % BLOCK)
+                self.decode_singly(turn)
         return self.flows[turn]
 
-    def decode(self, first: int) -> None:
-        self.decoded_again += first in self.few
-        written: dict[int, list[tuple[int, int]]] = defaultdict(list)
-        for flow in Flows(self.machine, range(first, min(first + BLOCK, self.end))):
+    def decode_singly(self, turn: int) -> None:
+        """Decodes the turn, with those to which the way back is likely to come."""
+        ahead = sorted({*self.writes.ahead, turn} - self.flows.keys())
+        self.writes.ahead = set()
+        try:
+            self.take(range(it, it + 1) for it in ahead)
+        except NotFollowed:  # which may be another turn
+            if turn not in self.flows:
+                self.take([range(turn, turn + 1)])
+
+    def take(self, parts: Iterable[range]) -> None:
+        for flow in Flows(self.machine, *parts, mappings=self.mappings):
             self.flows[flow.turn] = flow
+            self.singles[flow.turn - flow.turn % BLOCK] += 1
+
+    def decode(self, first: int, count: int = 1) -> None:
+        """Decodes the block of turns that begins at turn `first`, and blocks before it, up to one
+        that is decoded."""
+        begins = range(first, max(first - count * BLOCK, -1), -BLOCK)
+        written = {
+            it: defaultdict[int, list[tuple[int, int]]](list)
+            for it in itertools.takewhile(lambda it: it not in self.written, begins)
+        }
+        turns = range(min(written), min(first + BLOCK, self.end))
+        for flow in Flows(self.machine, turns, mappings=self.mappings):
+            self.flows[flow.turn] = flow
+            in_block = written[flow.turn - flow.turn % BLOCK]
             for number, it in enumerate(flow.moves):
                 if not is_core(it.cell):
-                    written[it.cell].append((flow.turn, number))
-        self.written[first] = written
+                    in_block[it.cell].append((flow.turn, number))
+        self.written.update(written)
+
+    def decode_back(self, first: int, count: int) -> None:
+        try:
+            self.decode(first, count)
+        except NotFollowed:  # which may be a turn that isn't needed
+            self.decode(first)
 
     # Origins
 
@@ -146,23 +173,16 @@ class Origins:
         if moved is not None and moved.is_read and cell & ~1 in moved.in_core:
             return Origin(Kind.MOVED, turn, cell)
         while True:
-            last = self.last(turn, cell & ~1)
+            last = self.writes.before(turn, cell & ~1)
             if last is None:
                 return Origin(Kind.START, 0, first_of(cell))
-            turn, writer = last
-            if writer == "disk":
+            turn = last.turn
+            if last.writer == DISK:
                 return Origin(Kind.MOVED, turn, cell)
             found = written_in(self.flow(turn), cell, len(self.flow(turn).moves))
             if found is not None:
                 return found
             # only the other byte was written by the act
-
-    def last(self, turn: int, address: int) -> Optional[tuple[int, str]]:
-        key = turn, address
-        if key not in self.lasts:
-            last = self.machine.last(turn, address)
-            self.lasts[key] = None if last is None else (last.turn, last.writer)
-        return self.lasts[key]
 
     def of_device(self, cell: int, turn: int, begun: int) -> Origin:
         if cell & ~1 not in INPUTS:
@@ -176,10 +196,11 @@ class Origins:
         return Origin(Kind.START, 0, cell & ~1)
 
     def in_register(self, cell: int, turn: int) -> Origin:
-        first = turn - turn % BLOCK
+        first, count = turn - turn % BLOCK, 1
         while first >= 0 and turn - first < MOST_TURNS_BACK:
             if first not in self.written:
-                self.decode(first)
+                self.decode_back(first, count)
+                count = min(2 * count, MOST_BLOCKS)
             writes = self.written[first].get(cell, [])
             at = bisect.bisect_left(writes, (turn, 0))
             if at:
@@ -192,29 +213,27 @@ class Origins:
         drive, word = byte_of_drive(cell).drive, byte_of_drive(cell).word
         delay = self.machine.setup.delays["disk"] or self.window
         for number in range(begun // self.window, -1, -1):
-            for it in self.disk_writes(number):
-                if it.turn <= begun and it.drive == drive and word in it.on_drive:
+            for it in reversed(self.transfers(number)):
+                is_here = it.drive == drive and word in it.on_drive
+                if it.turn <= begun and is_here and not it.is_read:
                     return Origin(Kind.MOVED, it.turn, cell)
             if (begun - number * self.window) // delay > MOST_LOOKS:
                 return too_far(begun, cell)
         return Origin(Kind.START, 0, first_of(cell))
 
-    def disk_writes(self, number: int) -> list[Transfer]:
-        """The writes of the disk that complete in this window of turns, the last first."""
+    def transfers(self, number: int) -> list[Transfer]:
+        """The reads and writes of the disk that complete in this window of turns."""
         if number not in self.windows:
             turns = range(number * self.window, min((number + 1) * self.window, self.end))
-            found = transfers_in(self.machine, turns)[::-1]
-            self.windows[number] = [it for it in found if not it.is_read]
+            self.windows[number] = transfers_in(self.machine, turns)
         return self.windows[number]
 
     def transfer(self, turn: int) -> Transfer:
         """The transfer that completes in this turn."""
-        if turn not in self.moved_in:
-            found = transfers_in(self.machine, range(turn, turn + 1))
-            if not found:
-                raise ExploreError(f"turn {turn}: the rules don't explain what the disk moves")
-            (self.moved_in[turn],) = found
-        return self.moved_in[turn]
+        found = [it for it in self.transfers(turn // self.window) if it.turn == turn]
+        if not found:
+            raise ExploreError(f"turn {turn}: the rules don't explain what the disk moves")
+        return found[0]
 
     # The way back
 

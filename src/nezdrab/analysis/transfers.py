@@ -7,7 +7,7 @@ from ..core.replies import Devices, DiskFunction
 from ..core.values import dataclass
 from .cells import drive_cell
 
-UNIT_BYTES = 0o20000
+UNIT_BYTES, ASKED_AT_ONCE = 0o20000, 16
 MOVING = (DiskFunction.READ, DiskFunction.WRITE)
 FUNCTIONS = {it.title.replace(" ", "-"): it for it in DiskFunction}
 
@@ -138,13 +138,17 @@ class Disk:
         self.machine = machine
         self.ends: frozenset[int] = frozenset()
         self.moved: dict[int, Transfer] = {}
+        self.turns = range(0)
+        self.ready: dict[int, bool] = {}  # before which turns it is
 
-    def prepare(self, turns: range) -> None:
-        """Asks for what is done in these turns."""
-        found = list(functions_done(self.machine, turns))
+    def prepare(self, turns: range, is_ready: bool = False) -> None:
+        """Asks for what is done in these turns, unless it is a single turn that begins with the
+        disk ready."""
+        found = [] if is_ready and len(turns) == 1 else list(functions_done(self.machine, turns))
         self.ends = frozenset(it.turn for it in found)
         moving = [it for it in found if it.function in MOVING]
         self.moved = {it.turn: it for it in moved_by(self.machine, moving)}
+        self.turns, self.ready = turns, {turns[0]: True} if is_ready else {}
 
     def completed(self, turn: int) -> Optional[Transfer]:
         """What completes in the beginning of this turn, and moves words."""
@@ -152,4 +156,14 @@ class Disk:
 
     def is_busy(self, turn: int) -> bool:
         """Whether a function is under way in the act of this turn."""
-        return turn not in self.ends and not self.machine.devices(turn).disk_is_ready
+        return turn not in self.ends and not self.is_ready(turn)
+
+    def is_ready(self, turn: int) -> bool:
+        """Whether the disk is ready before the turn. A program writes several of its registers in
+        turns near each other: so the turns after this one are asked too."""
+        if turn not in self.ready:
+            asked = [it for it in range(turn, turn + ASKED_AT_ONCE) if it in self.turns] or [turn]
+            replies = self.machine.read_all([f"devices {it}" for it in asked])
+            states = (Devices.of(it).disk_is_ready for it in replies)
+            self.ready.update(zip(asked, states))
+        return self.ready[turn]

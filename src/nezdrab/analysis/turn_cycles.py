@@ -1,12 +1,13 @@
 """Where the references of a turn go: words of core, physical addresses, and which turns trap. All
 that is asked of the program for the rules of data stands here."""
+import itertools
 import re
-from typing import Iterator, NamedTuple, Optional, Sequence
+from typing import Iterable, Iterator, NamedTuple, Optional, Sequence
 
-from ..core.engine import Machine
+from ..core.engine import SHORT_SENT_AHEAD, Machine
 from ..core.errors import ExploreError
 from ..core.hardware import IO_PAGE
-from ..core.replies import MODES, Mode, Turn, words_of
+from ..core.replies import MODES, Devices, Mode, Pages, Turn, turns_of, words_of
 from ..core.values import dataclass, field
 from .transfers import UNIT_BYTES, Transfer
 
@@ -16,7 +17,7 @@ SR0, RESERVED, BUS_ERROR, ABORT = 0o777572, 0o10, 0o4, 0o250
 TRAPS = (BUS_ERROR, RESERVED, ABORT)
 REGS = re.compile(
     rb"R0 (\d+) R1 (\d+) R2 (\d+) R3 (\d+) R4 (\d+) R5 (\d+)"
-    rb" KSP (\d+) USP (\d+) PC (\d+) PS (\d+) \w+"
+    rb" KSP (\d+) USP (\d+) PC (\d+) PS (\d+) (\w+)"
 )
 REGS_BYTES, PC_AT, PS_AT = 130, 8, 9
 TURNS_AT_ONCE = 1024
@@ -35,46 +36,85 @@ class Row(NamedTuple):
     words: tuple[int, ...]
     pc: int
     ps: int
+    is_halted: bool = False
 
 
 class Seen(NamedTuple):
-    """A turn with the registers before and after it, and the vector of the trap that it has."""
+    """A turn with the registers before and after it."""
 
     act: Turn
     before: Row
     after: Row
-    vector: Optional[int]
 
 
-def rows(machine: Machine, turns: range) -> Iterator[Row]:
+@dataclass
+class Part:
+    """Turns that follow one another, with what is asked of them together. `blocks` has the physical
+    addresses under the mapping before the first turn, as far as they are known; `words` has the
+    words of the code that runs, and of vectors."""
+
+    turns: range
+    seen: list[Seen]
+    blocks: dict[int, Optional[int]]
+    is_disk_ready: bool  # before the first turn
+    words: dict[int, int] = field(default_factory=dict)
+
+    def code(self) -> dict[int, tuple[int, int]]:
+        """The blocks of these words, as mode and number, by their keys."""
+        code = {(it.before.ps >> 14, it.before.pc // BLOCK) for it in self.seen}
+        vectors = (it.act.vector for it in self.seen)
+        code |= {(KERNEL, it // BLOCK) for it in (*TRAPS, *vectors) if it is not None}
+        return {mode * BLOCKS_OF_A_SPACE + block: (mode, block) for mode, block in sorted(code)}
+
+
+def rows(machine: Machine, turns: Iterable[int]) -> Iterator[Row]:
     for block in machine.ascending([b"regs %d" % it for it in turns], REGS_BYTES):
         for found in REGS.finditer(block):
-            words = tuple(int(it, 8) for it in found.groups())
-            yield Row(words[:PC_AT], words[PC_AT], words[PS_AT])
+            *digits, state = found.groups()
+            words = tuple(int(it, 8) for it in digits)
+            yield Row(words[:PC_AT], words[PC_AT], words[PS_AT], state == b"halted")
 
 
-def traps(machine: Machine, turns: range) -> dict[int, int]:
-    """The vectors of the turns that have a trap which their instruction's word doesn't tell."""
-    found: dict[int, int] = {}
-    lines = [f"first {turns.start} {turns.stop} trap {it:o}" for it in TRAPS]
-    for vector, reply in zip(TRAPS, list(machine.read_all(lines))):
-        word = reply.split()[1]
-        turn = None if word == "none" else int(word)
-        while turn is not None:
-            found[turn] = vector
-            left = range(turn + 1, turns.stop)
-            turn = machine.found("first", left, f"trap {vector:o}") if left else None
-    return found
+def trap_of(machine: Machine, turn: int) -> Optional[int]:
+    """The vector of the trap that a turn has, if it has one that its instruction's word doesn't
+    tell."""
+    lines = [f"first {turn} {turn + 1} trap {it:o}" for it in TRAPS]
+    replies = list(machine.read_all(lines))
+    return next((it for it, reply in zip(TRAPS, replies) if reply.split()[1] != "none"), None)
 
 
-def seen_turns(machine: Machine, turns: range) -> list[Seen]:
-    trapping = traps(machine, turns)
-    found = list(rows(machine, range(turns.start, turns.stop + 1)))
-    acts = machine.turns(turns.start, len(turns))
-    return [
-        Seen(act, before, after, trapping.get(act.turn))
-        for act, before, after in zip(acts, found, found[1:])
+@dataclass
+class Mappings:
+    """The physical addresses of blocks, by what memory management has in its registers: a turn
+    under a mapping that was met before needs no further question."""
+
+    known: dict[str, dict[int, Optional[int]]] = field(default_factory=dict)
+
+    def of(self, pages: str) -> dict[int, Optional[int]]:
+        """Those under the mapping of this reply to `pages`."""
+        is_on = Pages.of(pages).sr0 & 1
+        return self.known.setdefault(pages[pages.index("KPDR") :] if is_on else "", {})
+
+
+def parts_of(machine: Machine, mappings: Mappings, parts: Sequence[range]) -> list[Part]:
+    """What these parts do, which ascend, asked upwards in two passes."""
+    found = rows(machine, (it for part in parts for it in range(part.start, part.stop + 1)))
+    trails = [machine.trail_lines(it.start, len(it)) for it in parts]
+    lines = [
+        line
+        for part, its in zip(parts, trails)
+        for line in (f"pages {part.start}", f"devices {part.start}", *its)
     ]
+    of_rows = [list(itertools.islice(found, len(it) + 1)) for it in parts]
+    replies = machine.read_all(lines, SHORT_SENT_AHEAD)
+    made = []
+    for part, its, registers in zip(parts, trails, of_rows):
+        pages, devices = next(replies), next(replies)
+        acts = (act for reply in itertools.islice(replies, len(its)) for act in turns_of(reply))
+        seen = [Seen(*it) for it in zip(acts, registers, registers[1:])]
+        is_ready = Devices.of(devices).disk_is_ready
+        made.append(Part(part, seen, mappings.of(pages), is_ready))
+    return made
 
 
 @dataclass
@@ -100,40 +140,57 @@ class Space:
             self.known.pop(address, None)
         self.stored.clear()
         self.is_remapped = False
-        if self.transfer is not None or transfer is not None:
-            self.known.clear()
         self.turn = turn
         self.transfer = transfer if transfer is not None and transfer.is_read else None
+        if self.transfer is not None:
+            moved = self.transfer.in_core
+            self.known = {at: word for at, word in self.known.items() if at not in moved}
 
-    def prepare(self, seen: Sequence[Seen]) -> None:
-        """Asks together for the blocks of code that these turns run, which follow one another."""
-        turn = seen[0].act.turn
-        code = {(it.before.ps >> 14, it.before.pc // BLOCK) for it in seen}
-        keys = {mode * BLOCKS_OF_A_SPACE + block: (mode, block) for mode, block in sorted(code)}
-        new = {key: it for key, it in keys.items() if key not in self.blocks}
-        asked = [(turn, MODES[mode], block * BLOCK) for mode, block in new.values()]
-        self.blocks.update(zip(new, self.machine.places(asked)))
-        begins = {begin for it in keys if (begin := self.blocks[it]) is not None}
-        firsts = sorted(it for it in begins if it < self.top and it not in self.known)
-        lines = [f"mem {turn} {it:o} {BLOCK // 2}" for it in firsts]
-        for first, reply in zip(firsts, self.machine.read_all(lines)):
-            self.known.update(zip(range(first, first + BLOCK, 2), words_of(reply)))
+    def prepare(self, parts: Sequence[Part]) -> None:
+        """Asks together for the blocks of code that these parts run."""
+        new = {
+            (id(part.blocks), key): (part, key, it)
+            for part in parts
+            for key, it in part.code().items()
+            if key not in part.blocks
+        }
+        asked = [(it.turns[0], MODES[mode], at * BLOCK) for it, _, (mode, at) in new.values()]
+        for (part, key, _), place in zip(new.values(), self.machine.places(asked)):
+            part.blocks[key] = place
+        firsts = [(part, first) for part in parts for first in self.unknown_code(part)]
+        lines = [f"mem {part.turns[0]} {it:o} {BLOCK // 2}" for part, it in firsts]
+        replies = self.machine.read_all(lines, SHORT_SENT_AHEAD)
+        for (part, first), reply in zip(firsts, replies):
+            part.words.update(zip(range(first, first + BLOCK, 2), words_of(reply)))
+
+    def unknown_code(self, part: Part) -> list[int]:
+        """Where the blocks of core begin that the part runs, as far as they aren't known."""
+        known = self.known if part.turns[0] == self.turn + 1 else {}
+        begins = {begin for it in part.code() if (begin := part.blocks[it]) is not None}
+        return sorted(it for it in begins if it < self.top and it not in known)
+
+    def start(self, part: Part) -> None:
+        """The walk goes on at this part."""
+        if part.turns[0] != self.turn + 1:
+            self.known, self.transfer = {}, None
+            self.stored.clear()
+        self.known.update(part.words)
+        self.blocks = part.blocks
 
     def wrote(self, address: int) -> None:
         if address < IO_PAGE:
             self.stored.append(address & ~1)
         elif address & ~1 == SR0:
-            self.blocks.clear()
-            self.is_remapped = True
+            self.blocks, self.is_remapped = {}, True
         elif address >> 6 in MODE_OF_MAPPING:
             self.is_remapped = True
             page = address >> 1 & 7
             first = MODE_OF_MAPPING[address >> 6] * BLOCKS_OF_A_SPACE + page * BLOCKS_OF_A_PAGE
-            for key in range(first, first + BLOCKS_OF_A_PAGE):
-                self.blocks.pop(key, None)
+            remapped = range(first, first + BLOCKS_OF_A_PAGE)
+            self.blocks = {key: it for key, it in self.blocks.items() if key not in remapped}
 
     def reset(self) -> None:
-        self.blocks.clear()
+        self.blocks = {}
 
     def word(self, address: int) -> int:
         """The word at a physical address, as the act of the turn finds it."""

@@ -1,18 +1,19 @@
 """The data of turns: what each turn writes, and what that is made of, by the table of `made_of` and
 the order of docs/MACHINE.md, What happens in order."""
-from typing import Iterator, Optional, Sequence
+from typing import Iterable, Iterator, Optional, Sequence
 
 from ..core.addressing import PC, SP
 from ..core.engine import Machine
 from ..core.replies import INSTRUCTION
-from .cells import ALL_CODES, C, KSP, MASK, N, NAMES, NOTHING, OF_THE_DISK, REST, Cells
+from .cells import ALL_CODES, C, KSP, MASK, N, NAMES, NOTHING, OF_THE_DISK, REST, USP, Cells
 from .cells import register_cells, word_cells
 from .crew import Progress
 from .made_of import EXTENDED, KEPT, MOVED, XOR, Row, made_of, plan_of
 from .operands import POINT, STACK_LIMIT, WHOLE_PS, Access, BelowTheLimit, Flow, How, Operand
 from .operands import Operands, Stopped, pointer_of
 from .transfers import Transfer
-from .turn_cycles import KERNEL, RESERVED, TURNS_AT_ONCE, USER, NotFollowed, Seen, seen_turns
+from .turn_cycles import KERNEL, RESERVED, TRAPS, TURNS_AT_ONCE, USER, Mappings, NotFollowed
+from .turn_cycles import Seen, parts_of, trap_of
 
 IDLE, TRACE, STACK = "idle", 0o14, 0o4
 VECTORS = {"trace": TRACE, "stack": STACK}
@@ -34,47 +35,101 @@ def flows_with_bar(machine: Machine, turns: range) -> Iterator[Flow]:
                 progress.step(TURNS_OF_A_STEP)
 
 
-class Flows(Operands):
-    """Makes the flows of these turns, one after the other."""
+def groups_of(parts: Iterable[range]) -> Iterator[list[range]]:
+    """The parts, none of which has too many turns, in lists of which each is asked at once."""
+    group: list[range] = []
+    for part in parts:
+        for at in range(0, len(part), TURNS_AT_ONCE):
+            its = part[at : at + TURNS_AT_ONCE]
+            if group and sum(map(len, group)) + len(its) > TURNS_AT_ONCE:
+                yield group
+                group = []
+            group.append(its)
+    yield from [group] if group else []
 
-    def __init__(self, machine: Machine, turns: range):
+
+class Flows(Operands):
+    """Makes the flows of these turns, one after the other; or of several parts of turns, which
+    ascend."""
+
+    def __init__(self, machine: Machine, *parts: range, mappings: Optional[Mappings] = None):
         super().__init__(machine)
-        self.turns, self.flowing = turns, Flow()
+        self.parts, self.flowing, self.is_asked = parts, Flow(), False
+        self.mappings = mappings or Mappings()
 
     def __iter__(self) -> Iterator[Flow]:
-        for at in range(self.turns.start, self.turns.stop, TURNS_AT_ONCE):
-            part = self.turns[at - self.turns.start :][:TURNS_AT_ONCE]
-            self.disk.prepare(part)
-            found = seen_turns(self.machine, part)
-            self.space.prepare(found)
-            for seen in found:
-                transfer = self.disk.completed(seen.act.turn)
-                self.space.begin(seen.act.turn, transfer)
-                yield self.flow(seen, transfer)
+        for group in groups_of(self.parts):
+            parts = parts_of(self.machine, self.mappings, group)
+            self.space.prepare(parts)
+            for part in parts:
+                self.disk.prepare(part.turns, part.is_disk_ready)
+                self.space.start(part)
+                for seen in part.seen:
+                    transfer = self.disk.completed(seen.act.turn)
+                    self.space.begin(seen.act.turn, transfer)
+                    yield self.flow(seen, transfer)
 
     def flow(self, seen: Seen, transfer: Optional[Transfer]) -> Flow:
+        """The turn is walked as if no operand trapped. Whether one did is asked only if the
+        registers after it don't show that none did."""
+        try:
+            self.is_asked = False
+            self.walk(seen, transfer, None)
+            if seen.act.act != INSTRUCTION:
+                self.check()
+                return self.flowing
+            if self.is_untrapped(seen):
+                return self.flowing
+        except (Stopped, NotFollowed):
+            pass
+        self.is_asked = True
+        self.walk(seen, transfer, trap_of(self.machine, seen.act.turn))
+        self.check()
+        return self.flowing
+
+    def walk(self, seen: Seen, transfer: Optional[Transfer], vector: Optional[int]) -> None:
         self.registers, self.after = list(seen.before.words), seen.after
-        self.pc, self.vector = seen.before.pc, seen.vector
+        self.pc, self.vector = seen.before.pc, vector
         self.mode, self.previous = seen.before.ps >> 14, seen.before.ps >> 12 & 3
         self.moves, self.cycles, self.turn = [], [], seen.act.turn
         self.instant = self.unknown = 0
-        seen_of = seen.act.turn, seen.act, self.mode, transfer
-        flow = self.flowing = Flow(*seen_of, self.moves, self.cycles)
+        self.flowing = Flow(self.turn, seen.act, self.mode, transfer, self.moves, self.cycles)
         if seen.act.act == INSTRUCTION:
             self.instruction()
         elif seen.act.act != IDLE:
             vector = seen.act.vector
             self.sequence(VECTORS[seen.act.act] if vector is None else vector)
-        self.check()
-        return flow
+
+    def is_untrapped(self, seen: Seen) -> bool:
+        """Whether the registers show that no operand trapped. A trap pushes two words, and what the
+        instruction has left to do can't shrink a pointer as much; the red sequence leaves KSP at
+        its two words, or below them. If the pointers don't tell, PC may: a trap loads it from a
+        vector, unless it halts."""
+        if self.unexplained() is not None:
+            return False
+        is_low = seen.after.words[KSP] <= BOTTOM
+        if not is_low and not self.unknown & (1 << KSP | 1 << USP):
+            return True
+        return not (is_low and seen.after.is_halted) and seen.after.pc not in self.trap_routines()
+
+    def trap_routines(self) -> Iterator[int]:
+        """Where traps of operands lead."""
+        for vector in TRAPS:
+            place = self.space.place(KERNEL, vector)
+            yield from [] if place is None else [self.space.word(place)]
+
+    def unexplained(self) -> Optional[int]:
+        """The first register that isn't what these rules make of it, as far as no value was
+        written."""
+        pairs = zip(self.registers, self.after.words)
+        differing = (at for at, (word, after) in enumerate(pairs) if word != after)
+        return next((it for it in differing if not self.unknown >> it & 1), None)
 
     def check(self) -> None:
-        """That the registers are what these rules make of them, as far as no value was written."""
-        after = self.after.words
-        for number, word in enumerate(self.registers):
-            if word != after[number] and not self.unknown >> number & 1:
-                name = NAMES[number]
-                raise NotFollowed(f"turn {self.flowing.turn}: the rules don't explain {name}")
+        number = self.unexplained()
+        if number is not None:
+            name = NAMES[number]
+            raise NotFollowed(f"turn {self.flowing.turn}: the rules don't explain {name}")
 
     def instruction(self) -> None:
         try:
@@ -84,12 +139,19 @@ class Flows(Operands):
             if self.vector == RESERVED:
                 raise Stopped
             self.carry_out(word)
-        except BelowTheLimit:
+        except Stopped as stopped:
+            if self.vector is None and not self.is_asked:
+                raise
+            self.stop(stopped)
+
+    def stop(self, stopped: Stopped) -> None:
+        """What follows a reference that can't be made."""
+        if isinstance(stopped, BelowTheLimit):
             self.flowing.vector, self.vector = self.vector, None
             self.red()
-        except Stopped:
-            if self.vector is None:
-                raise NotFollowed(f"turn {self.flowing.turn}: the rules don't explain it")
+        elif self.vector is None:
+            raise NotFollowed(f"turn {self.flowing.turn}: the rules don't explain it")
+        else:
             self.sequence(self.vector)
 
     # Sequences
@@ -250,6 +312,8 @@ class Flows(Operands):
         elif kind == 7:
             if register != PC:
                 self.step(register, -1)
+        elif kind not in EXTENDED:
+            raise Stopped
         else:
             name, row = EXTENDED[kind]
             pair = (register,) if name == "ASH" else tuple({register, register | 1})

@@ -6,7 +6,7 @@ from ..core.engine import Machine
 from ..core.errors import ExploreError
 from ..core.in_words import counted
 from ..core.values import dataclass
-from .account import MOST_ENDS, Account, ranges
+from .account import MOST_ENDS, Account, Head, ranges
 from .cells import ALL_CODES, NAMES, REST, TPB, byte_of_drive, drive_cell, is_of_drive, name_of
 from .cells import register_cells, word_cells
 from .branches import sent_here
@@ -89,7 +89,7 @@ def add_roots(account: Account, begins: Sequence[Root]) -> None:
         found.setdefault(account.steps.step_of(root.origin), root)
     for step, root in found.items():
         source = account.steps.source(step, root.cell)
-        account.add(source, 1, f"{root.name}{account.copied(source.copies)} <- ")
+        account.add(source, 1, Head(root.name, account.copied(source.copies)))
 
 
 def end_lines(account: Account, graph: Graph, turn: int, most: int) -> Iterator[str]:

@@ -4,9 +4,11 @@ import random
 from typing import Iterator
 
 from nezdrab.analysis.cells import is_core
+from nezdrab.analysis.turn_cycles import TRAPS, trap_of
 from nezdrab.analysis.turn_flow import Flows
 from nezdrab.core.engine import MOST_WORDS, Machine, Start
 from nezdrab.core.errors import ExploreError
+from nezdrab.core.replies import INSTRUCTION
 
 from .common import BUILT
 from .systems import KEYS, LEDGER, OfSystems
@@ -121,14 +123,40 @@ class Writes(OfSystems):
         stamps = self.compare(self.machine(KEYS), range(0, 3_000), 0o60000)
         self.assertGreater(stamps, 500)
 
-    def test_programs_of_random_words(self) -> None:
+    def random_programs(self, seeds: range) -> Iterator[Machine]:
         machine = Machine(Start(BUILT.program, ["--units", "4"], self.folder))
         self.addCleanup(machine.close)
-        stamps = 0
-        for seed in range(40):
+        for seed in seeds:
             machine.restart()
             replies = machine.ask_all(list(program(random.Random(seed))), 1000)
             self.assertFalse([it for it in replies if it.startswith("refused")], seed)
             with self.subTest(seed=seed):
-                stamps += self.compare(machine, range(0, TURNS), TOP)
+                yield machine
+
+    def test_programs_of_random_words(self) -> None:
+        machines = self.random_programs(range(40))
+        stamps = sum(self.compare(it, range(0, TURNS), TOP) for it in machines)
         self.assertGreater(stamps, 1200)
+
+    def test_which_turns_trap(self) -> None:
+        """Which turns trap is mostly seen by their registers: it must be what a search finds."""
+        found, looked_at = set(), 0
+        for machine in self.random_programs(range(40, 80)):
+            try:
+                for flow in Flows(machine, range(0, TURNS)):
+                    if flow.act.act == INSTRUCTION:
+                        seen = flow.vector if flow.vector in TRAPS else None
+                        self.assertEqual(seen, trap_of(machine, flow.turn), flow.turn)
+                        found.add(seen)
+                        looked_at += 1
+            except ExploreError as error:
+                self.assertIn("isn't followed", str(error))
+        self.assertEqual(found, {None, *TRAPS})
+        self.assertGreater(looked_at, 1000)
+
+    def test_turns_one_by_one(self) -> None:
+        machine, turns = self.machine(LEDGER), range(127_300, 127_700)
+        together = list(Flows(machine, turns))
+        single = list(Flows(machine, *(range(it, it + 1) for it in turns[::3])))
+        self.assertEqual(single, together[::3])
+        self.assertTrue(any(it.transfer for it in single))

@@ -8,6 +8,7 @@ from nezdrab.analysis.account import ranges
 from nezdrab.analysis.cells import ALL_CODES, drive_cell, is_on_bus, register_cells
 from nezdrab.analysis.explorer import Explorer
 from nezdrab.analysis.labels import Labels, events_with_data
+from nezdrab.analysis.last_writes import LastWrites
 from nezdrab.analysis.origins import Origins
 from nezdrab.analysis.turn_flow import Flows
 from nezdrab.core.engine import Machine
@@ -134,6 +135,45 @@ class Backwards(OnMachine):
         self.assertIn("(a patch)", lines_of(explorer, "why disk 3 at 1000")[1])
         said = "  R4 <- R4, 000000 since power-up"
         self.assertEqual(lines_of(explorer, "why R4 at 1000")[1], said)
+
+
+class Counters(OnMachine):
+    """A clock's handler counts ticks: INC @#2000, a byte in INCB @#2003, and RTI."""
+
+    PROGRAM = {
+        0o1000: "12706 1000 12737 100 177546 5200 776",
+        0o100: "1100 340",
+        0o1100: "5237 2000 105237 2003 2",
+    }
+    STEPS, END = 400, 30_000
+
+    def counting(self) -> Explorer:
+        words = [
+            f"core {first + 2 * at:o} {it}"
+            for first, text in self.PROGRAM.items()
+            for at, it in enumerate(text.split())
+        ]
+        return self.explorer("", [*words, "delay clock 53"])
+
+    def test_the_last_writes_are_those_that_are_asked_one_by_one(self) -> None:
+        machine = self.counting().machine
+        writes, chance = LastWrites(machine), random.Random(5)
+        for address in (0o2000, 0o2002, 0o774):
+            turn = self.END
+            for _ in range(200):
+                last = machine.last(turn, address)
+                wanted = None if last is None else (last.turn, last.writer)
+                self.assertEqual(writes.before(turn, address), wanted)
+                turn = last.turn if last and chance.random() < 0.95 else chance.randrange(self.END)
+        self.assertTrue(any(it.writes for it in writes.chains.values()))
+
+    def test_a_counter_is_followed_without_going_back_for_each_step(self) -> None:
+        explorer = self.counting()
+        asked = explorer.machine.asked
+        lines = lines_of(explorer, f"why 2000 at {self.END} steps {self.STEPS}")
+        self.assertIn("operations on it (the last 40: INC)", "".join(lines))
+        self.assertIn(f"the limit is {self.STEPS} steps", lines[-1])
+        self.assertLess(asked.went_back, self.STEPS // 4)
 
 
 class Places(OnMachine):
