@@ -19,6 +19,7 @@ if TYPE_CHECKING:
     from .core.errors import ExploreError
     from .core.found import Found as Found, Transfer as Transfer, Unreadable as Unreadable
     from .core.machine import Machine as Machine
+    from .core.moves import EventMoves as EventMoves, Moved as Moved
     from .core.past import Event as Event, Setup as Setup
     from .core.program import TimedOut as TimedOut
     from .core.questions import Question as Question
@@ -39,6 +40,7 @@ NAMES = {
     "errors": "NezdrabError",
     "found": "Found Transfer Unreadable",
     "machine": "Machine",
+    "moves": "EventMoves Moved",
     "past": "Event Setup",
     "program": "ProgramEnded TimedOut",
     "questions": "Question",

@@ -8,21 +8,22 @@ from ..core.engine import LAST_TURN, Machine
 from ..core.errors import ExploreError
 from ..core.in_words import counted, some_are
 from ..core.language import comma_fault
+from ..core.moves import USUAL_MOST, Asking, Moved, Moves, Task, Trial, Tried, Way, common
+from ..core.moves import events_of
 from ..core.past import Event
 from ..core.sessions import words_of
+from ..core.twins import each_of
 from ..core.values import dataclass, field
 from .command import Arguments, command
-from .crew import Progress, each_of
+from .crew import Progress
 from .explorer import Explorer
 from .matters_table import EventRow, table
-from .moves import Change, Moves, Task, Trial, Tried, Way, common, named_events
 from .long_work import job_lines, kept_in, read_files, stopped_work
 from .sought_reply import is_reply, reply_of_turn
-from .sweep import digest_of
+from .sweep import digest_of, in_one_line
 from .sweep_fades import end_of
 from .long_work import WorkOptions
 
-USUAL_MOST = 1_024
 JOBS = 64
 FORM = "matters [E ..] [within C|near C]: QUESTION [until REPLY]"
 MATTERS = re.compile(
@@ -54,13 +55,13 @@ class Results:
     def of(self, event: Event, way: Way) -> Tried:
         return self.tried.setdefault((event, way), Tried())
 
-    def add(self, task: Task, change: Optional[Change]) -> str:
+    def add(self, task: Task, change: Optional[Moved[str]]) -> str:
         """Takes in what came of a task. Returns its line for a file."""
         first, last = task.shifts[0], task.shifts[-1]
-        last = change.shift if change else last
+        last = change.turns if change else last
         self.of(task.event, task.way).add(range(first, last + 1), change)
         event = f"{task.event.number} {task.event.turn} {task.event.text}"
-        return f"{event}: {task.way.value} {first} {last} {change.reply if change else SAME}"
+        return f"{event}: {task.way.value} {first} {last} {change.answer if change else SAME}"
 
     def __post_init__(self) -> None:
         self.events = None if self.script is None else frozenset(self.script)
@@ -77,7 +78,7 @@ class Results:
         if found is None or event is None:
             return "" if HEADING.fullmatch(line) else "no line of matters"
         first, last = int(found["first"]), int(found["last"])
-        change = None if found["reply"] == SAME else Change(last, found["reply"])
+        change = None if found["reply"] == SAME else Moved(last, found["reply"])
         self.of(event, Way(found["way"])).add(range(first, last + 1), change)
         return ""
 
@@ -91,8 +92,12 @@ class Results:
 
 @dataclass(frozen=True)
 class Matters:
-    """What a line asks: the moves, and the events that are moved."""
+    """What a line asks: the question, its reply without a move, the moves, and the events that are
+    moved. `until` is the reply that is looked for, or empty for any other one."""
 
+    question: str
+    reply: str
+    until: str
     moves: Moves
     events: Sequence[Event]
     left_out: int  # events that no move brings before the end, if none are named
@@ -111,16 +116,30 @@ class Matters:
         reply = reply_of_turn(machine, question)
         if sought and is_reply(sought, reply):
             raise ExploreError(f"the reply is that without a move: {reply}")
-        moves = Moves(question, reply, end_of(question), most, match["how"] == "near", sought)
+        moves = Moves(end_of(question), most, match["how"] == "near")
         named = [int(it) for it in (match["events"] or "").split()]
-        events = events_of(machine, moves, named)
-        return cls(moves, events, 0 if named else len(machine.script) - len(events))
+        events = events_of(machine, moves, named or None)
+        left_out = 0 if named else len(machine.script) - len(events)
+        return cls(question, reply, sought, moves, events, left_out)
+
+    @property
+    def asked(self) -> str:
+        """What is asked, in the words of a line."""
+        return self.question + (f" until {self.until}" if self.until else "")
+
+    def is_sought(self, reply: str) -> bool:
+        """Whether a move that gives this reply is one that is looked for."""
+        return is_reply(self.until, reply) if self.until else reply != self.reply
+
+    @property
+    def asking(self) -> Asking[str]:
+        return Asking([self.question], lambda it: in_one_line(it[0]), self.is_sought)
 
     def heading(self, machine: Machine) -> str:
         """What results are of: the question, the past and its reply."""
         near = " near" if self.moves.is_near else ""
-        past = f"past {digest_of(machine)}, reply {self.moves.reply}"
-        return f"# matters{near}: {self.moves.asked}, {past}"
+        past = f"past {digest_of(machine)}, reply {self.reply}"
+        return f"# matters{near}: {self.asked}, {past}"
 
     @property
     def runs(self) -> dict[tuple[Event, Way], range]:
@@ -155,24 +174,17 @@ class Matters:
 
     def tasks_left(self, tried: Tried, event: Event, way: Way) -> Iterator[Task]:
         for task in self.moves.tasks_of(event, way):
-            if tried.is_nearest or tried.change and tried.change.shift < task.shifts.start:
+            if tried.is_nearest or tried.change and tried.change.turns < task.shifts.start:
                 return
             if not tried.has(task.shifts):
                 yield task
-
-
-def events_of(machine: Machine, moves: Moves, named: Sequence[int]) -> list[Event]:
-    """The events that are named, or all that can matter."""
-    if not named:
-        return [it for it in machine.script if moves.can_matter(it)]
-    return named_events(machine, named)
 
 
 def tried(
     machine: Machine, matters: Matters, results: Results, hands: int
 ) -> Iterator[str]:
     """The lines of what comes of each task, as it comes."""
-    moves, trial = matters.moves, Trial(machine, matters.moves)
+    moves, trial = matters.moves, Trial(machine, matters.moves, matters.asking)
     stride, hands = sparse_stride(moves.end), min(hands, 3 * len(matters.events))
     with Progress(matters.count - matters.known(results), "moves") as progress:
         for task, change in each_of(machine, matters.tasks(results), trial.change, hands, stride):
@@ -190,7 +202,7 @@ def lines_of(
     work = tried(machine, matters, results, hands) if matters.events else ()
     stopped = stopped_work(results, work, path)
     rows = results.rows(matters.events)
-    yield from table(moves.question, moves.reply, rows, moves.is_near, moves.until)
+    yield from table(matters.question, matters.reply, rows, moves.is_near, matters.until)
     if matters.left_out:
         events_are = counted(matters.left_out, "event")
         yield f"left out: {events_are}, which no such move brings before turn {moves.end}"
@@ -207,7 +219,7 @@ def parts_of(machine: Machine, matters: Matters) -> Iterator[str]:
     size = max(1, -(-len(matters.events) // JOBS))
     for at in range(0, len(matters.events), size):
         part = matters.events[at : at + size]
-        yield f"{' '.join(places[it] for it in part)} {how}: {moves.asked}"
+        yield f"{' '.join(places[it] for it in part)} {how}: {matters.asked}"
 
 
 def gathered(paths: Sequence[str]) -> Iterator[str]:

@@ -5,9 +5,9 @@ from typing import Iterable, Iterator, Mapping, Sequence
 
 from ..core.engine import LAST_TURN
 from ..core.in_words import counted
+from ..core.moves import Tried, Way
 from ..core.past import Event
 from ..core.values import dataclass
-from .moves import Tried, Way
 
 # Of a value in the table, in characters.
 LONGEST_VALUE, SHOWN_BEFORE, NEAR_DIFFERENCE = 24, 6, 24
@@ -27,7 +27,7 @@ class EventRow:
     def order(self) -> tuple[int, bool, int, int]:
         """Those that small moves matter of come first, then those that can't be dropped."""
         changes = [self.tried[it].change for it in (Way.EARLIER, Way.LATER)]
-        nearest = min((it.shift for it in changes if it), default=FAR)
+        nearest = min((it.turns for it in changes if it), default=FAR)
         is_same = self.tried[Way.DROPPED].change is None
         return nearest, is_same, self.event.turn, self.event.number
 
@@ -45,7 +45,7 @@ class EventRow:
         number, turn, text = self.event
         moves = {Way.EARLIER: -1, Way.LATER: 1}
         changes = ((self.tried[way].change, sign) for way, sign in moves.items())
-        shifts = [(it.shift, sign * it.shift) for it, sign in changes if it]
+        shifts = [(it.turns, sign * it.turns) for it, sign in changes if it]
         if shifts:
             return f"alter {number} {turn + min(shifts)[1]} {text}"
         return f"drop {number}" if self.tried[Way.DROPPED].change else ""
@@ -53,7 +53,7 @@ class EventRow:
 
 def dropped_cell(tried: Tried, beside: "Beside", same: str) -> str:
     if tried.change:
-        return beside.value(tried.change.reply)
+        return beside.value(tried.change.answer)
     return same if tried.known else "not tried"
 
 
@@ -61,7 +61,7 @@ def moved_cell(row: EventRow, way: Way, beside: "Beside", is_near: bool, same: s
     tried, event = row.tried[way], row.event
     if tried.change:
         doubt = "" if is_near or tried.is_nearest else " or less"
-        return f"by {tried.change.shift}{doubt}: {beside.value(tried.change.reply)}"
+        return f"by {tried.change.turns}{doubt}: {beside.value(tried.change.answer)}"
     first, last = (event.turn, 0) if way is Way.EARLIER else (LAST_TURN - event.turn, LAST_TURN)
     if not first:
         return f"in turn {last}"
@@ -123,7 +123,7 @@ def table(
     shown = reply if len(reply) <= LONGEST_REPLY else f"..{reply[-LONGEST_REPLY:]}"
     yield f"matters: {question}    {shown}{f'    until {until}' if until else ''}"
     changes = [tried.change for it in rows for tried in it.tried.values()]
-    beside = Beside(reply, (it.reply for it in changes if it))
+    beside = Beside(reply, (it.answer for it in changes if it))
     rows = sorted(rows, key=EventRow.order)
     cells = [it.cells(beside, is_near, "no" if until else "same") for it in rows]
     if not cells:

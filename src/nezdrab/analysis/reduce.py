@@ -7,6 +7,7 @@ from ..core.asked import sparse_stride
 from ..core.engine import Machine
 from ..core.errors import ExploreError
 from ..core.in_words import counted
+from ..core.moves import named_events
 from ..core.past import Event
 from ..core.reducing import Reduction
 from ..core.values import dataclass
@@ -14,7 +15,6 @@ from .account import ranges
 from .command import Arguments, command
 from .crew import Progress, stopped_by
 from .explorer import Explorer
-from .moves import named_events
 from .script import event_line
 from .sought_reply import is_reply, question_and_reply, reply_of_turn
 from .sweep import in_one_line

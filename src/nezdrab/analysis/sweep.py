@@ -12,9 +12,10 @@ from ..core.in_words import counted, some_are
 from ..core.language import MOST_DIGITS, SEARCHES, comma_fault, is_decimal, is_edit
 from ..core.past import Event
 from ..core.sessions import words_of
+from ..core.twins import each_of
 from ..core.values import dataclass, field
 from .command import Arguments, check_turn, command
-from .crew import Progress, each_of
+from .crew import Progress
 from .explorer import Explorer
 from .long_work import job_lines, kept_in, read_files, stopped_work
 from .script import past_lines

@@ -2,26 +2,21 @@
 import re
 from typing import Optional
 
-from ..core import sessions
-from ..core.asked import turns_of_question
+from ..core.asked import last_turn_of
 from ..core.engine import LAST_TURN, Machine
 from ..core.errors import ExploreError
 from .fades import fade_of
 
 HEADING = "# sweep --fades "
 AGAIN = re.compile(r"(.*; the old run again from turn) ([0-9]{1,10}) on", re.DOTALL)
-OF_TURNS = {it.form.split()[0] for it in sessions.TABLE if it.turns == sessions.SPAN}
 
 
 def end_of(question: str) -> int:
     """The last turn that a question is about: up to it the program looks whether an edit fades."""
-    turns = turns_of_question(question)
-    if turns is None:
+    turn = last_turn_of(question)
+    if turn is None:
         raise ExploreError(f"--fades looks up to the question's turn, and '{question}' has none")
-    words = sessions.words_of(question)
-    last = words[2] if words[0] in OF_TURNS and len(words) > 2 else ""
-    end = int(last) if re.fullmatch("[0-9]{1,10}", last) else turns[1]
-    return min(end, LAST_TURN)
+    return min(turn, LAST_TURN)
 
 
 def fades_of(twin: Machine, edit: str, end: int) -> str:

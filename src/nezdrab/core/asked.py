@@ -10,6 +10,7 @@ from .values import dataclass
 # Not `when F`. `fades` leaves the machine wherever it was found out.
 ASKING = (sessions.STATE, sessions.SPAN, sessions.LAST)
 NAMES = frozenset(it.form.split()[0] for it in sessions.TABLE if it.turns in ASKING)
+OF_TURNS = frozenset(it.form.split()[0] for it in sessions.TABLE if it.turns == sessions.SPAN)
 MOST_DIGITS = 10
 LEAST_SPARSE_STRIDE, SPARSE_STATES = 50_000, 8
 LEAST_STRIDE, KEPT_STATES = 64, 250  # the program keeps 256, and then doubles the stride
@@ -30,6 +31,16 @@ def turns_of_question(line: str) -> Optional[tuple[int, int]]:
         if words[0] in ("latest", "counts"):
             return turn, number
     return turn, turn
+
+
+def last_turn_of(question: str) -> Optional[int]:
+    """The last turn that a question is about, or None if it names none."""
+    turns = turns_of_question(question)
+    words = sessions.words_of(question)
+    if turns is None:
+        return None
+    is_of_span = words[0] in OF_TURNS and len(words) > 2 and is_decimal(words[2])
+    return int(words[2][:MOST_DIGITS]) if is_of_span else turns[1]
 
 
 def stride_before(first: int, question: str) -> Optional[int]:

@@ -152,8 +152,8 @@ class Machine:
         """Another program with the same edits, or with these; with a stride of its own, if any."""
         if edits is None:
             start = self.start if stride is None else self.start.with_stride(stride)
-            return Machine(start, list(self.journal), list(self.replies))
-        twin = Machine(self.start)
+            return Machine(start, list(self.journal), list(self.replies), seconds=self.seconds)
+        twin = Machine(self.start, seconds=self.seconds)
         try:
             twin.edit_all(edits)
         except BaseException:

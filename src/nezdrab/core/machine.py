@@ -276,9 +276,7 @@ class Machine(Trials, Walks):
     def fork(self) -> Machine:
         """Another machine with the same past and names, in a program of its own; a copy is one."""
         other = type(self).__new__(type(self))
-        engine = self._engine.twin()
-        engine.seconds = self.seconds
-        other._take(engine, copy.deepcopy(self.symbols))
+        other._take(self._engine.twin(), copy.deepcopy(self.symbols))
         return other
 
     @contextmanager

@@ -3,17 +3,20 @@ from __future__ import annotations
 
 import operator
 from contextlib import closing
-from typing import Any, Callable, Iterable, Iterator, Optional, SupportsIndex
+from typing import TYPE_CHECKING, Any, Callable, Iterable, Iterator, Optional, SupportsIndex
 from typing import TypeVar, Union, overload
 
 from . import questions
 from .all_words import words_apart
-from .asked import sparse_stride, turns_of_question
+from .asked import last_turn_of, sparse_stride
 from .engine import LAST_TURN, Machine as Engine
 from .errors import ExploreError
 from .past import Event
 from .questions import Address, Question
 from .replies import Mode
+
+if TYPE_CHECKING:
+    from .moves import EventMoves
 
 Answer = TypeVar("Answer")
 
@@ -97,7 +100,7 @@ class Trials:
             raise ExploreError("the answer isn't wanted with all events")
         named = None if events is None else frozenset(map(operator.index, events))
         kept = [it for it in engine.script if named is None or it.number in named]
-        end = max((it[1] for line in lines if (it := turns_of_question(line))), default=0)
+        end = max((last_turn_of(it) or 0 for it in lines), default=0)
         with closing(engine.twin(stride=sparse_stride(end))) as twin:
             kept = [it for it in kept if it.turn < LAST_TURN]
             reduction = Reduction(twin, lines, lambda it: bool(wanted(asked.read(it))), kept)
@@ -106,3 +109,65 @@ class Trials:
                 if len(reduction.kept) < len(kept):
                     kept = reduction.kept
                     yield kept
+
+    @overload
+    def matters(
+        self,
+        question: str,
+        is_wanted: Optional[Callable[[str], bool]] = None,
+        *,
+        events: Optional[Iterable[SupportsIndex]] = None,
+        within: SupportsIndex = 1_024,
+        near: bool = False,
+        processes: int = 1,
+    ) -> Iterator[EventMoves[str]]:
+        ...
+
+    @overload
+    def matters(
+        self,
+        question: Question[Answer],
+        is_wanted: Optional[Callable[[Answer], bool]] = None,
+        *,
+        events: Optional[Iterable[SupportsIndex]] = None,
+        within: SupportsIndex = 1_024,
+        near: bool = False,
+        processes: int = 1,
+    ) -> Iterator[EventMoves[Answer]]:
+        ...
+
+    def matters(
+        self,
+        question: Union[str, Question[Any]],
+        is_wanted: Optional[Callable[[Any], bool]] = None,
+        *,
+        events: Optional[Iterable[SupportsIndex]] = None,
+        within: SupportsIndex = 1_024,
+        near: bool = False,
+        processes: int = 1,
+    ) -> Iterator[EventMoves[Any]]:
+        """What becomes of the answer with each event dropped, moved earlier, and moved later: the
+        moves by the fewest turns, up to `within`, after which it is another answer, or one that
+        `is_wanted`. Each number of turns is tried; with `near` those that double, and then halves,
+        which may miss a nearer move, or the only one. A moved event is the last of its new turn.
+        `events` are the numbers of those to try, if not all that come before the question's turn or
+        can be moved there. They come as they are done, with one process in the order of the script.
+        The past stays as it is. A NezdrabError if the question names no turn, or if the answer is
+        wanted without a move."""
+        from .moves import Asking, Moves, nearest_moves  # which few need
+        from .sweeping import replies_to
+
+        asked, engine, most = questions.question_of(question), self._engine, operator.index(within)
+        lines = list(asked.lines(self._number))
+        ends = [it for it in map(last_turn_of, lines) if it is not None]
+        if not ends or not 1 <= most <= LAST_TURN:
+            fault = f"within is 1 to {LAST_TURN}" if ends else "the question names no turn"
+            raise ExploreError(fault)
+        present = asked.read(replies_to(engine, lines))
+        if is_wanted is not None and is_wanted(present):
+            raise ExploreError("the answer is wanted without a move")
+        sought = is_wanted or (lambda answer: bool(answer != present))
+        moves = Moves(min(max(ends), LAST_TURN), most, near)
+        asking = Asking(lines, asked.read, sought)
+        numbers = None if events is None else list(map(operator.index, events))
+        yield from nearest_moves(engine, moves, asking, numbers, processes)

@@ -4,14 +4,15 @@ import re
 import subprocess
 from typing import Optional, Sequence
 
+from nezdrab import Machine
 from nezdrab.analysis.explorer import Explorer
-from nezdrab.analysis.matters import Matters, Results, tried
-from nezdrab.analysis.moves import Change, Tried, Way
 from nezdrab.analysis.long_work import take_lines
+from nezdrab.analysis.matters import Matters, Results, tried
 from nezdrab.core.engine import LAST_TURN
+from nezdrab.core.moves import Moved, Tried, Way
 from nezdrab.core.past import Event
 
-from .common import ROOT, SECONDS
+from .common import BUILT, ROOT, SECONDS
 from .machines import LEDGER, OnMachine
 from .terminal import AtTerminal
 
@@ -60,7 +61,7 @@ class BruteForce(OnMachine):
 
     def nearest(
         self, past: Sequence[str], event: Event, way: Way, most: int, question: str, until: str = ""
-    ) -> Optional[Change]:
+    ) -> Optional[Moved[str]]:
         """The nearest move that changes the reply, or makes it that one, by all of them, or
         none."""
         same = self.reply(past, "", question)
@@ -72,7 +73,7 @@ class BruteForce(OnMachine):
             edit = f"alter {event.number} {turn} {event.text}" if sign else f"drop {event.number}"
             reply = self.reply(past, edit, question)
             if reply == until if until else reply != same:
-                return Change(shift, reply)
+                return Moved(shift, reply)
         return None
 
     def results(self, explorer: Explorer, line: str, hands: int = 2) -> Results:
@@ -104,7 +105,7 @@ class BruteForce(OnMachine):
         explorer = self.explorer(edits=past)
         question = chance.choice(QUESTIONS).format(chance.randrange(15, 60))
         changes = self.results(explorer, f"within {most}: {question}").tried.values()
-        replies = sorted({it.change.reply for it in changes if it.change})
+        replies = sorted({it.change.answer for it in changes if it.change})
         if not replies:
             return 0
         until = chance.choice(replies)
@@ -128,7 +129,7 @@ class BruteForce(OnMachine):
         results = self.results(explorer, "within 10: devices 45")
         found = {event.turn: results.of(event, Way.EARLIER) for event, _ in results.tried}
         wanted = {50: 6, 45: 1}
-        shifts = {turn: it.change and it.change.shift for turn, it in found.items()}
+        shifts = {turn: it.change and it.change.turns for turn, it in found.items()}
         self.assertEqual(shifts, wanted)
         for event, way in results.tried:
             if way is not Way.EARLIER:
@@ -145,17 +146,32 @@ class BruteForce(OnMachine):
             change = results.of(event, way).change
             wanted = self.nearest(past, event, way, 22, "devices 22")
             self.assertEqual(change, wanted, (event, way))
-        self.assertEqual(results.of(last, Way.LATER).change, Change(2, change_of(results, last)))
+        self.assertEqual(results.of(last, Way.LATER).change, Moved(2, change_of(results, last)))
 
 
 def change_of(results: Results, event: Event) -> str:
     """The reply without the event, which is that with it moved to the question's turn too."""
     change = results.of(event, Way.DROPPED).change
-    return change.reply if change else ""
+    return change.answer if change else ""
 
 
 class InLedger(OnMachine):
     """The system of the examples."""
+
+    def test_the_method_of_the_package(self) -> None:
+        """It finds what the command finds, near moves too."""
+        machine = self.explorer(LEDGER).machine
+        package = Machine.of_session(ROOT / "examples" / LEDGER, program=BUILT.program)
+        self.addCleanup(package.close)
+        for how, near in (("within", False), ("near", True)):
+            results = Results("", machine.script)
+            asked = Matters.of(machine, f"13 15 {how} 300: dsk 138071 0 1")
+            list(tried(machine, asked, results, 2))
+            rows = package.matters("dsk 138071 0 1", events=[13, 15], within=300, near=near)
+            for it in rows:
+                found = zip(Way, (it.dropped, it.earlier, it.later))
+                for way, moved in found:
+                    self.assertEqual(moved, results.of(it.event, way).change, (it.event, way))
 
     def test_parts_of_a_reply_begin_at_one_point(self) -> None:
         """The line of the text before which the balance is 000137, whose keys are moved."""
@@ -266,7 +282,7 @@ class Merging(OnMachine):
         tried_moves = Tried()
         tried_moves.add(range(9, 25), None)
         self.assertEqual(tried_moves.same_to, 0)
-        tried_moves.add(range(25, 41), Change(40, "x"))
+        tried_moves.add(range(25, 41), Moved(40, "x"))
         self.assertFalse(tried_moves.is_nearest)
         tried_moves.add(range(1, 9), None)
         self.assertEqual((tried_moves.same_to, tried_moves.known), (39, [range(1, 41)]))

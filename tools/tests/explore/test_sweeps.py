@@ -9,9 +9,9 @@ from unittest import mock
 
 from nezdrab.analysis import long_work
 from nezdrab.analysis.crew import AtWork
-from nezdrab.analysis.crew import each_of
 from nezdrab.core.engine import Machine
 from nezdrab.core.errors import ExploreError
+from nezdrab.core.twins import each_of
 
 from .common import SECONDS
 from .terminal import AtTerminal

@@ -6,9 +6,9 @@ from unittest import mock
 
 from nezdrab.analysis.explorer import Explorer
 from nezdrab.analysis.matters import Matters, Results, tried
-from nezdrab.analysis.moves import Trial
-from nezdrab.analysis.unnoticed import unnoticed
 from nezdrab.core.engine import LAST_TURN, Machine
+from nezdrab.core.moves import Trial
+from nezdrab.core.unnoticed import unnoticed
 
 from .machines import LEDGER, OnMachine
 
@@ -104,7 +104,7 @@ class Fewer(OnMachine):
         """The same comes of all moves. Two keys lie before and after others in their turns."""
         edits = ["at 126900 key 61", "at 126900 tick", "at 127166 key 63"]
         explorer = self.explorer(LEDGER, edits)
-        replies, counts = Trial.replies, [0, 0]
+        replies, counts = Trial.answers, [0, 0]
         found = []
         for at, nothing in enumerate((False, True)):
 
@@ -112,7 +112,7 @@ class Fewer(OnMachine):
                 counts[at] += len(shifts)
                 return replies(trial, twin, task, shifts)
 
-            with mock.patch.object(Trial, "replies", counted):
+            with mock.patch.object(Trial, "answers", counted):
                 if nothing:
                     with mock.patch.object(Trial, "not_noticing", return_value=frozenset()):
                         found.append(self.results(explorer, "12 15 29 within 250: dsk 138071 0 1"))

@@ -1,5 +1,7 @@
 """What became of keys, writes of a range, other pasts and the fewest events, by methods."""
-from nezdrab import Fate, NezdrabError, questions
+from typing import Any, Optional
+
+from nezdrab import Event, Fate, Machine, Moved, NezdrabError, questions
 
 from .common import Case
 
@@ -69,3 +71,76 @@ class Trials(Case):
         self.assertEqual([it.number for it in least], [13])
         with self.assertRaises(NezdrabError):
             list(machine.reduce("dsk 138071 0 1", lambda it: bool(it == "dsk 000140")))
+
+
+class Matters(Case):
+    """Moves of the lost update's key, which change what is on the drive in turn 40, and of two more
+    events."""
+
+    MOST = 14
+
+    def lost_update(self) -> Machine:
+        machine = self.of_session("who-wrote-this-word.session")
+        machine.at(25, key="B")
+        machine.at(50, "tick")
+        return machine
+
+    def brute(self, machine: Machine, event: Event, sign: int) -> Optional[Moved[int]]:
+        """The nearest move after which the word is another one, each in a machine of its own."""
+        question = questions.dsk(40, 0)
+        before = machine.ask(question)[0]
+        for shift in range(1, self.MOST + 1) if sign else (0,):
+            if event.turn + sign * shift < 0:
+                return None
+            with machine.fork() as other:
+                if sign:
+                    other.alter(event.number, turn=event.turn + sign * shift)
+                else:
+                    other.drop(event.number)
+                word = other.ask(question)[0]
+            if word != before:
+                return Moved(shift, word)
+        return None
+
+    def test_the_nearest_moves(self) -> None:
+        machine = self.lost_update()
+        before, found = machine.events(), 0
+        for processes in (1, 2):
+            rows = list(machine.matters(questions.dsk(40, 0), within=self.MOST, processes=processes))
+            self.assertEqual({it.event for it in rows}, set(before))
+            found = 0
+            for it in rows:
+                moves = zip((0, -1, 1), (it.dropped, it.earlier, it.later))
+                for sign, move in moves:
+                    word = None if move is None else Moved(move.turns, move.answer[0])
+                    self.assertEqual(word, self.brute(machine, it.event, sign), (it.event, sign))
+                    found += move is not None
+        self.assertGreater(found, 1)
+        self.assertEqual(machine.events(), before)
+
+    def test_what_is_wanted(self) -> None:
+        """The nearest move gives another answer than the one that is wanted."""
+        machine, line = self.of_session(LEDGER), "dsk 138071 0 1"
+        (row,) = machine.matters(line, events=[15], within=400)
+        self.assertEqual(row.earlier, Moved(135, "dsk 000136"))
+        (row,) = machine.matters(line, lambda it: it == "dsk 000140", events=[15], within=400)
+        self.assertEqual((row.dropped, row.earlier), (None, Moved(317, "dsk 000140")))
+        (near,) = machine.matters(line, events=[15], within=400, near=True)
+        for moved, sign in ((near.earlier, -1), (near.later, 1)):
+            assert moved is not None
+            with machine.altered(15, turn=row.event.turn + sign * moved.turns) as other:
+                self.assertEqual(other.ask(line), moved.answer)
+
+    def test_what_can_not_be_asked(self) -> None:
+        machine = self.lost_update()
+        asked: tuple[tuple[dict[str, Any], str], ...] = (
+            ({"question": "setup"}, "the question names no turn"),
+            ({"question": "regs 40", "within": 0}, "within is 1 to 1000000000"),
+            ({"question": "regs 40", "events": [9]}, "no event has the number 9"),
+            ({"question": "mem 40 1 1"}, "mem 40 1 1: refused 3 OddAddress: the address is odd"),
+            ({"question": "regs 40", "is_wanted": bool}, "the answer is wanted without a move"),
+        )
+        for named, said in asked:
+            with self.assertRaises(NezdrabError) as raised:
+                list(machine.matters(**named))
+            self.assertTrue(str(raised.exception).startswith(said), raised.exception)

@@ -11,9 +11,9 @@ it with the key. If the next turn has no event of its own, a key in that one's b
 same state: from there on both runs are one. By induction that holds for a key in any turn of such
 ones that follow one another, and in the first turn after them. All acts are equal, and so are all
 replies but those of `devices` about a turn between."""
-from ..core.engine import SHORT_SENT_AHEAD, Machine
-from ..core.register_rows import PS, STATE
-from ..core.replies import IDLE, INSTRUCTION, Devices, TurnAccesses
+from .engine import SHORT_SENT_AHEAD, Machine
+from .register_rows import PS, STATE
+from .replies import IDLE, INSTRUCTION, Devices, TurnAccesses
 
 KEYBOARD, RESET = range(0o777560, 0o777564), 0o5
 ABOVE_KEYS, ENABLE = 0o200, 0o100  # the bit of PS of the priorities 4 to 7; that of TKS

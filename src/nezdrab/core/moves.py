@@ -1,17 +1,20 @@
-"""An event that is dropped, or moved by some turns: the work of `matters`."""
+"""An event that is dropped, or moved by some turns, and what becomes of an answer: `matters`."""
 from enum import Enum
-from typing import Iterable, Iterator, Optional, Sequence
+from typing import Callable, Generic, Iterable, Iterator, Optional, Sequence, TypeVar
 
-from ..core.engine import LAST_TURN, UNDO, Machine, is_refused
-from ..core.errors import ExploreError
-from ..core.language import explanation
-from ..core.past import Event
-from ..core.values import dataclass, field
-from .sought_reply import is_reply
-from .sweep import in_one_line
+from .asked import sparse_stride
+from .engine import LAST_TURN, UNDO, Machine
+from .errors import ExploreError
+from .past import Event
+from .replies import hash_of
+from .sweeping import replies_to
+from .twins import each_of
 from .unnoticed import unnoticed
+from .values import dataclass, field
 
 FIRST_BLOCK, LARGEST_BLOCK = 16, 256  # moves that are tried in one task
+USUAL_MOST = 1_024  # turns by which events are moved
+Answer = TypeVar("Answer")
 
 
 class Way(Enum):
@@ -23,11 +26,36 @@ class Way(Enum):
 
 
 @dataclass(frozen=True)
-class Change:
-    """A move by so many turns, and another reply after it."""
+class Moved(Generic[Answer]):
+    """A move of an event by this number of turns, 0 if it was dropped, and the answer then."""
 
-    shift: int
-    reply: str
+    turns: int
+    answer: Answer
+
+    __hash__ = hash_of
+
+
+@dataclass(frozen=True)
+class EventMoves(Generic[Answer]):
+    """An event, and the moves by the fewest turns after which the answer is another one, or the one
+    that is wanted: None if there is no such move."""
+
+    event: Event
+    dropped: Optional[Moved[Answer]]
+    earlier: Optional[Moved[Answer]]
+    later: Optional[Moved[Answer]]
+
+    __hash__ = hash_of
+
+
+@dataclass(frozen=True)
+class Asking(Generic[Answer]):
+    """What is asked after each move: lines, the answer that their replies are, and whether that is
+    one that is looked for."""
+
+    lines: Sequence[str]
+    read: Callable[[Sequence[str]], Answer]
+    is_sought: Callable[[Answer], bool]
 
 
 @dataclass(frozen=True)
@@ -46,12 +74,12 @@ class Tried:
     """What is known of the moves of an event in one way."""
 
     known: list[range] = field(default_factory=list)  # in order, without common numbers
-    change: Optional[Change] = None  # by the fewest turns
+    change: Optional[Moved[str]] = None  # by the fewest turns
 
-    def add(self, shifts: range, change: Optional[Change]) -> None:
+    def add(self, shifts: range, change: Optional[Moved[str]]) -> None:
         """Takes in that of these the last one changes the reply, or none."""
         self.known = merged([*self.known, shifts])
-        if change and (self.change is None or change.shift < self.change.shift):
+        if change and (self.change is None or change.turns < self.change.turns):
             self.change = change
 
     def has(self, shifts: range) -> bool:
@@ -61,12 +89,12 @@ class Tried:
     def same_to(self) -> int:
         """No move by up to so many turns changes the reply."""
         known = self.known[0].stop - 1 if self.known and self.known[0].start <= 1 else 0
-        return known if self.change is None else min(known, self.change.shift - 1)
+        return known if self.change is None else min(known, self.change.turns - 1)
 
     @property
     def is_nearest(self) -> bool:
         """Whether no move by fewer turns than that of the change changes the reply."""
-        return self.change is not None and self.same_to == self.change.shift - 1
+        return self.change is not None and self.same_to == self.change.turns - 1
 
 
 def merged(ranges: Iterable[range]) -> list[range]:
@@ -87,26 +115,12 @@ def common(one: range, other: range) -> range:
 
 @dataclass(frozen=True)
 class Moves:
-    """What is asked with an event moved, the reply without a move, the turn before which events
-    count, and by how many turns they are moved at most: by each number of turns, or, if `is_near`,
-    by some that double, and then by halves. `until` is the reply that is looked for, or empty for
-    any other one than that without a move."""
+    """The turn before which events count, and by how many turns they are moved at most: by each
+    number of turns, or, if `is_near`, by some that double, and then by halves."""
 
-    question: str
-    reply: str
     end: int
     most: int
     is_near: bool = False
-    until: str = ""
-
-    @property
-    def asked(self) -> str:
-        """What is asked, in the words of a line."""
-        return self.question + (f" until {self.until}" if self.until else "")
-
-    def is_sought(self, reply: str) -> bool:
-        """Whether a move that gives this reply is one that is looked for."""
-        return is_reply(self.until, reply) if self.until else reply != self.reply
 
     def can_matter(self, event: Event) -> bool:
         """Whether the event comes before the end, or a move brings it there."""
@@ -147,41 +161,48 @@ class Moves:
         return task.event.turn + (shift if task.way is Way.LATER else -shift)
 
 
-class Trial:
+class Trial(Generic[Answer]):
     """Tries the moves of events on twins of a machine."""
 
-    def __init__(self, machine: Machine, moves: Moves):
-        self.moves, self.version = moves, machine.setup.version
+    def __init__(self, machine: Machine, moves: Moves, asking: Asking[Answer]):
+        self.moves, self.asking = moves, asking
         self.turns = frozenset(it.turn for it in machine.script)
 
-    def change(self, twin: Machine, task: Task) -> Optional[Change]:
+    def nearest(self, twin: Machine, event: Event) -> EventMoves[Answer]:
+        """What matters of the event."""
+        found = (
+            next(filter(None, (self.change(twin, it) for it in tasks)), None)
+            for tasks in (self.moves.tasks_of(event, way) for way in Way)
+        )
+        return EventMoves(event, *found)
+
+    def change(self, twin: Machine, task: Task) -> Optional[Moved[Answer]]:
         """The move of a task by the fewest turns that is looked for."""
         if not task.runs:
             return None
         return self.near(twin, task) if self.moves.is_near else self.first(twin, task)
 
-    def replies(self, twin: Machine, task: Task, shifts: Sequence[int]) -> Iterator[Change]:
-        """The reply after each of these moves, which is taken back then."""
-        question, event = self.moves.question, task.event
+    def answers(
+        self, twin: Machine, task: Task, shifts: Sequence[int]
+    ) -> Iterator[Moved[Answer]]:
+        """The answer after each of these moves, which is taken back then."""
+        event, lines = task.event, self.asking.lines
         turns = [self.moves.turn(task, it) for it in shifts]
         edits = [f"alter {event.number} {turn} {event.text}" for turn in turns]
-        lines = [line for edit in edits for line in (edit, question, UNDO)]
-        replies = list(twin.ask_all(lines, len(lines)))
-        for line, reply in zip(lines, replies):
-            if is_refused(reply):
-                why = explanation(line, reply, self.version)
-                raise ExploreError(f"{line}: {reply}: {why}")
-        return map(Change, shifts, map(in_one_line, replies[1::3]))
+        replies = replies_to(twin, [line for edit in edits for line in (edit, *lines, UNDO)])
+        size = len(lines) + 2
+        for at, shift in enumerate(shifts):
+            yield Moved(shift, self.asking.read(replies[at * size + 1 : at * size + size - 1]))
 
-    def first(self, twin: Machine, task: Task) -> Optional[Change]:
+    def first(self, twin: Machine, task: Task) -> Optional[Moved[Answer]]:
         """Tries all moves of a task, but of those that make the same run the nearest alone. In the
         order of their turns each costs least."""
         shifts = list(self.nearest_of_each_run(twin, task))
         if task.way is Way.EARLIER:
             shifts.reverse()
-        replies = self.replies(twin, task, shifts)
-        found = [it for it in replies if self.moves.is_sought(it.reply)]
-        return min(found, key=lambda it: it.shift) if found else None
+        answers = self.answers(twin, task, shifts)
+        found = [it for it in answers if self.asking.is_sought(it.answer)]
+        return min(found, key=lambda it: it.turns) if found else None
 
     def nearest_of_each_run(self, twin: Machine, task: Task) -> Iterator[int]:
         """The moves of a task but for those that make the same run as the one before: both put a
@@ -211,17 +232,17 @@ class Trial:
         list(twin.ask_all([UNDO]))
         return found
 
-    def near(self, twin: Machine, task: Task) -> Optional[Change]:
+    def near(self, twin: Machine, task: Task) -> Optional[Moved[Answer]]:
         """Tries moves that double until one changes the reply, and then those halfway to it."""
         same = task.runs.start - 1
-        found: Optional[Change] = None
+        found: Optional[Moved[Answer]] = None
         for shift in doubled(task.runs):
             found = self.changed(twin, task, shift)
             if found:
                 break
             same = shift
-        while found and found.shift - same > 1:
-            middle = (same + found.shift) // 2
+        while found and found.turns - same > 1:
+            middle = (same + found.turns) // 2
             nearer = self.changed(twin, task, middle)
             if nearer:
                 found = nearer
@@ -229,10 +250,10 @@ class Trial:
                 same = middle
         return found
 
-    def changed(self, twin: Machine, task: Task, shift: int) -> Optional[Change]:
+    def changed(self, twin: Machine, task: Task, shift: int) -> Optional[Moved[Answer]]:
         """The change by one move, if it is one."""
-        (found,) = self.replies(twin, task, range(shift, shift + 1))
-        return found if self.moves.is_sought(found.reply) else None
+        (found,) = self.answers(twin, task, range(shift, shift + 1))
+        return found if self.asking.is_sought(found.answer) else None
 
 
 def doubled(shifts: range) -> Iterator[int]:
@@ -251,3 +272,26 @@ def named_events(machine: Machine, numbers: Sequence[int]) -> list[Event]:
     if missing:
         raise ExploreError(f"no event has the number {missing[0]}; events lists them")
     return [events[it] for it in dict.fromkeys(numbers)]
+
+
+def events_of(
+    machine: Machine, moves: Moves, numbers: Optional[Sequence[int]] = None
+) -> list[Event]:
+    """The events with these numbers, or all that can matter."""
+    if numbers is not None:
+        return named_events(machine, numbers)
+    return [it for it in machine.script if moves.can_matter(it)]
+
+
+def nearest_moves(
+    machine: Machine,
+    moves: Moves,
+    asking: Asking[Answer],
+    numbers: Optional[Sequence[int]],
+    processes: int,
+) -> Iterator[EventMoves[Answer]]:
+    """What matters of each of these events, as it is found."""
+    events, trial = events_of(machine, moves, numbers), Trial(machine, moves, asking)
+    stride = sparse_stride(moves.end)
+    found = each_of(machine, events, trial.nearest, max(1, processes), stride)
+    return (it for _, it in found)
