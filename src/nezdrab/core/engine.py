@@ -24,7 +24,7 @@ MOST_WORDS = 256
 # How many lines are sent before their replies are looked at: those with long replies, and others.
 SENT_AHEAD, SHORT_SENT_AHEAD = 16, 1000
 BLOCK_BYTES, WORD_BYTES, TURNS_AT_ONCE = 50_000, 16, 400
-UNDO = "undo"  # the line that takes the last edit back
+UNDO, REDO = "undo", "redo"  # the lines that take the last edit back, and make it again
 OF_EVENTS = ("at", "alter", "drop")  # the edits that change the events alone
 Item = TypeVar("Item")
 
@@ -102,6 +102,8 @@ class Machine:
     def __post_init__(self) -> None:
         self._setup: Optional[Setup] = None
         self._script: Optional[list[Event]] = None
+        # What the program has to make again, with the replies: the edit that comes first is last.
+        self._undone: list[tuple[str, str]] = []
         self._running: Optional[Program] = self._started()
 
     def begin(self) -> Program:
@@ -141,6 +143,7 @@ class Machine:
         """Ends the program. The next use starts it again, with all edits: only the states that it
         kept are lost."""
         self._setup = self._script = None
+        self._undone.clear()
         if self._running is not None:
             running, self._running = self._running, None
             self.asked.turn = 0
@@ -178,17 +181,20 @@ class Machine:
         self.begin()  # here, where Ctrl-C can stop it
         with INTERRUPTS.held():
             replies = list(self.ask_all(lines, SHORT_SENT_AHEAD))
-            taken = [pair for pair in zip(lines, replies) if is_taken(pair[1])]
-            self.journal += [line for line, _ in taken]
-            self.replies += [reply for _, reply in taken]
-            if self.file is not None and taken:
-                self.file.add(self.journal, len(taken))
-            for word in {first_word(line) for line, _ in taken}:
-                if word in OF_EVENTS:
-                    self._script = None
-                else:
-                    self._setup = None
+            self._note([pair for pair in zip(lines, replies) if is_taken(pair[1])])
         return replies
+
+    def _note(self, taken: Sequence[tuple[str, str]]) -> None:
+        """These edits were made."""
+        self.journal += [line for line, _ in taken]
+        self.replies += [reply for _, reply in taken]
+        if self.file is not None and taken:
+            self.file.add(self.journal, len(taken))
+        for word in {first_word(line) for line, _ in taken}:
+            if word in OF_EVENTS:
+                self._script = None
+            else:
+                self._setup = None
 
     @contextmanager
     def edits_together(self) -> Iterator[None]:
@@ -204,6 +210,7 @@ class Machine:
         `version 2` back: then the next use starts it again, with the edits that are left."""
         with INTERRUPTS.held():
             left = len(self.journal) - count
+            taken = list(zip(self.journal[left:], self.replies[left:]))
             del self.journal[left:], self.replies[left:]
             if self.file is not None:
                 self.file.take_back(count)
@@ -212,8 +219,24 @@ class Machine:
             with suppress(ExploreError):
                 undone = self.ask_all([UNDO] * count, SHORT_SENT_AHEAD)
                 if self._running and all(map(is_taken, undone)):
+                    self._undone += taken[::-1]
                     return
             self.restart()
+
+    def make_again(self, edits: Sequence[str]) -> None:
+        """Makes these edits again, which were taken back. If it is long since, the program hasn't
+        them any more: then they are sent."""
+        self.begin()
+        with INTERRUPTS.held():
+            first = len(self._undone) - len(edits)
+            again = self._undone[max(0, first) :][::-1]
+            if [line for line, _ in again] == list(edits):
+                if all(map(is_taken, self.ask_all([REDO] * len(edits), SHORT_SENT_AHEAD))):
+                    del self._undone[first:]
+                    self._note(again)
+                    return
+                self.restart()
+            self.edit_all(edits)
 
     def ask_all(self, lines: Sequence[str], ahead: int = SENT_AHEAD) -> Iterator[str]:
         """The replies to lines, one by one. Edits among them aren't kept."""
@@ -226,6 +249,8 @@ class Machine:
 
     def _together(self, lines: Sequence[str]) -> Iterator[str]:
         """The replies to lines that are sent together."""
+        if any(map(is_edit, lines)):
+            self._undone.clear()
         with self._started_again():
             replies = self.limited().replies(lines)
             self.asked.note(it for it, reply in zip(lines, replies) if not is_refused(reply))

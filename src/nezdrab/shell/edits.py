@@ -47,7 +47,7 @@ def redo(explorer: Explorer, arguments: Arguments) -> Iterator[str]:
     with INTERRUPTS.held():
         if step.starts:
             begin_as(explorer.machine, step.starts[1])
-        explorer.machine.edit_all(step.edits)
+        explorer.machine.make_again(step.edits)
         steps.done.append(steps.undone.pop())
         steps.count = len(explorer.machine.journal)
     yield f"made again: {step_in_words(step)}"

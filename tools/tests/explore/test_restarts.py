@@ -3,8 +3,14 @@ import os
 import signal
 import subprocess
 import sys
+from typing import Sequence
+from unittest import mock
+
+from nezdrab.core.engine import Machine
+from nezdrab.core.program import Program
 
 from .common import ROOT, SECONDS
+from .machines import OnMachine
 from .media import Media, tape, words
 from .terminal import AtTerminal
 
@@ -13,6 +19,61 @@ SETUP = (
     "setup version 1 units 31 start 001000 stride 64 printer 1 reader 4 punch 4 disk 10 clock 0"
     " tape 0"
 )
+
+
+EDITS = ("at 3 key 101", "core 1000 777", "at 3 tick", "tape 1 2", "delay disk 7", "alter 1 2 tick")
+
+
+class MadeAgain(OnMachine):
+    """Edits that were taken back are made again by the program, which has them, as long as it
+    does."""
+
+    def past(self, machine: Machine) -> list[object]:
+        told = [machine.read(it) for it in ("events", "patches", "setup", "devices 9")]
+        return [machine.journal[:], machine.replies[:], *told]
+
+    def sent(self, machine: Machine, edits: Sequence[str]) -> list[str]:
+        """What is sent to make the edits again."""
+        found: list[str] = []
+        replies = Program.replies
+
+        def noted(program: Program, lines: Sequence[str]) -> list[str]:
+            found.extend(lines)
+            return replies(program, lines)
+
+        with mock.patch.object(Program, "replies", noted):
+            machine.make_again(edits)
+        return found
+
+    def test_the_program_makes_them_again(self) -> None:
+        machine = self.explorer("", EDITS).machine
+        for count in range(1, len(EDITS) + 1):
+            past = self.past(machine)
+            machine.take_back(count)
+            half = list(EDITS[-count:])[: (count + 1) // 2]
+            self.assertEqual(self.sent(machine, half), ["redo"] * len(half))
+            rest = list(EDITS[-count:])[len(half) :]
+            self.assertEqual(self.sent(machine, rest), ["redo"] * len(rest))
+            self.assertEqual(self.past(machine), past)
+
+    def test_they_are_sent_if_the_program_lacks_them(self) -> None:
+        for between in ("restart", "another edit", "version 2"):
+            machine = self.explorer("", EDITS).machine
+            edits = list(EDITS[-2:])
+            if between == "version 2":
+                edits = [*edits, "version 2"]
+                machine.ask("version 2")
+            past = self.past(machine)
+            machine.take_back(len(edits))
+            if between == "restart":
+                machine.restart()
+            elif between == "another edit":  # which is taken back as well
+                machine.ask("core 2000 5")
+                machine.take_back(1)
+            sent = self.sent(machine, edits)
+            self.assertEqual(sent[-len(edits) :], edits, between)
+            self.assertNotIn("redo", sent)
+            self.assertEqual(self.past(machine), past, between)
 
 
 class Starts(Media):
