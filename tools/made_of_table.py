@@ -1,6 +1,6 @@
 """What the results of instructions are made of, as the page's module. `tools/web --tables` makes
 web/made-of.js of this. The rows stand in src/nezdrab/analysis/made_of.py."""
-from nezdrab.analysis.made_of import EXTENDED, LETTERS, MOVED, XOR, Plan, Row, plan_of
+from nezdrab.analysis.made_of import EXTENDED, LETTERS, MOVED, XOR, MadeRow, Plan, plan_of
 
 OPERATIONS = 0o2000  # the numbers that the upper ten bits of a word can be
 MODULE = """\
@@ -41,7 +41,7 @@ export const rowOf = word =>
 """
 
 
-def call_of(row: Row, is_byte: bool = False) -> str:
+def call_of(row: MadeRow, is_byte: bool = False) -> str:
     """A row as a call that makes it."""
     codes = ",".join(row.codes)
     flags = ", true, true" if is_byte and row.is_copy else ", false, true" if is_byte else ""

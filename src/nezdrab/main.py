@@ -6,7 +6,7 @@ from pathlib import Path
 from typing import Iterator, Optional
 
 from .analysis.disassembly import disassembler_of
-from .analysis.explorer import Explorer, Step
+from .analysis.explorer import Explorer, UndoStep
 from .core.engine import Machine, Start, is_refused
 from .core.errors import ExploreError
 from .core.in_words import counted
@@ -137,13 +137,13 @@ def take_up(explorer: Explorer, path: Path, is_kept_on: bool) -> Iterator[str]:
     yield f"{counted(len(contents.edits), 'edit')} taken up (session: {contents.session})"
 
 
-def taken_steps(contents: Contents, path: Path, start: Start) -> list[Step]:
+def taken_steps(contents: Contents, path: Path, start: Start) -> list[UndoStep]:
     """The steps of a journal, whose options are those of this start by now."""
-    steps: list[Step] = []
+    steps: list[UndoStep] = []
     for kept in reversed(contents.steps):
         options = kept.options_before(path)
         before = start if options is None else replace(start, options=words_of_options(options))
-        steps.append(Step(kept.line, kept.edits, None if options is None else (before, start)))
+        steps.append(UndoStep(kept.line, kept.edits, None if options is None else (before, start)))
         start = before
     return steps[::-1]
 

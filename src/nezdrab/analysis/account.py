@@ -8,17 +8,17 @@ from ..core.values import dataclass, field
 from .cells import CODES, DRIVES, byte_of_drive, is_core, is_of_drive, is_register, name_of
 from .explorer import Explorer
 from .listing import turns_in_words
-from .origins import MOST_LOOKS, MOST_TURNS_BACK, Kind
-from .steps import Source, Step, Steps
+from .origins import MOST_LOOKS, MOST_TURNS_BACK, OriginKind
+from .steps import Source, ValueStep, ValueSteps
 
 MOST_LINES, MOST_LEVELS, MOST_NAMES = 100, 30, 6
 LONG_RUN, LOOKED_AT = 3, 40  # steps of one input each: from so many on they are one line
 FEW_TURNS, MOST_ENDS = 3, 6
 NOT_FOLLOWED, NOT_WHOLE = ", not followed", ", followed in part"
 OTHER_ENDS = {
-    Kind.TAPE: "a byte of the tape",
-    Kind.DEVICE: "what the register {:06o} showed",
-    Kind.POINT: "where the program stood",
+    OriginKind.TAPE: "a byte of the tape",
+    OriginKind.DEVICE: "what the register {:06o} showed",
+    OriginKind.POINT: "where the program stood",
 }
 
 
@@ -55,10 +55,10 @@ class Line:
 
     depth: int
     head: Head
-    step: Step
+    step: ValueStep
     written: int  # the cell that the step wrote
     run_head: Optional[Head] = None
-    run: Sequence[Step] = ()
+    run: Sequence[ValueStep] = ()
     note: str = ""
 
     @property
@@ -79,9 +79,9 @@ class Account:
     """Makes the lines."""
 
     explorer: Explorer
-    steps: Steps
+    steps: ValueSteps
     lines: list[Line] = field(default_factory=list)
-    above: set[Step] = field(default_factory=set)  # which have lines
+    above: set[ValueStep] = field(default_factory=set)  # which have lines
     texts: dict[int, str] = field(default_factory=dict)
     values: dict[tuple[int, int], str] = field(default_factory=dict)
     is_cut: bool = False
@@ -134,8 +134,8 @@ class Account:
         named = f"{self.name(head.of.cell)} {self.values[head.of]}".rstrip()
         return f"{named}{head.copied} <- "
 
-    def copied(self, copies: Sequence[Step]) -> str:
-        disk = sorted(it.turn for it in copies if it.kind == Kind.MOVED)
+    def copied(self, copies: Sequence[ValueStep]) -> str:
+        disk = sorted(it.turn for it in copies if it.kind == OriginKind.MOVED)
         others = len(copies) - len(disk)
         parts = [f"{others} times" if others > 1 else "once"] if others else []
         if len(disk) > FEW_TURNS:
@@ -145,12 +145,12 @@ class Account:
             parts.append(f"by the disk in {turns}")
         return f", copied {' and '.join(parts)}," if parts else ""
 
-    def end(self, step: Step) -> str:
+    def end(self, step: ValueStep) -> str:
         """What an end of the way back is."""
-        if step.kind == Kind.EVENT:
+        if step.kind == OriginKind.EVENT:
             event = self.machine.event(step.at)
             return f"event {step.at}: {event.explained() if event else ''}, turn {step.turn}"
-        if step.kind == Kind.START:
+        if step.kind == OriginKind.START:
             return self.at_power_up(step.at)
         if step.kind in OTHER_ENDS:
             return OTHER_ENDS[step.kind].format(step.at)
@@ -168,20 +168,20 @@ class Account:
         is_patch = key[:1] + tuple(key[1].split()) in self.patches
         return f"{self.name(cell)}, {word} since power-up{' (a patch)' if is_patch else ''}"
 
-    def what(self, step: Step) -> str:
+    def what(self, step: ValueStep) -> str:
         """What a step is. The texts of its turn must be known."""
         if not step.is_write:
             return self.end(step)
-        if step.kind == Kind.MOVED:
+        if step.kind == OriginKind.MOVED:
             is_filled = not self.steps.inputs[step] and step not in self.steps.left
             kind = "write" if is_of_drive(step.at) else "read"
             how = "the zeros that fill the sector of" if is_filled else f"a {kind} of the disk to"
             return f"turn {step.turn}: {how} {self.name(step.at)}"
         return f"turn {step.turn}: {self.texts[step.turn]}"
 
-    def know(self, steps: Iterable[Step]) -> None:
+    def know(self, steps: Iterable[ValueStep]) -> None:
         """Asks for the texts of the turns of these steps."""
-        turns = sorted({it.turn for it in steps if it.kind == Kind.MADE} - self.texts.keys())
+        turns = sorted({it.turn for it in steps if it.kind == OriginKind.MADE} - self.texts.keys())
         self.texts.update(zip(turns, turns_in_words(self.explorer, turns)))
 
     def made(self, line: Line) -> str:
@@ -224,7 +224,7 @@ class Account:
         self.is_cut = self.is_cut or is_full
         return is_full
 
-    def head(self, step: Step, source: Source) -> Head:
+    def head(self, step: ValueStep, source: Source) -> Head:
         return Head(Place(source.cell, step.turn), self.copied(source.copies))
 
     def add_run(self, line: Line) -> bool:

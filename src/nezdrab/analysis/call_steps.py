@@ -38,7 +38,7 @@ class State(NamedTuple):
 
 
 @dataclass
-class Step:
+class CallStep:
     """A turn after which the routine or a stack pointer is another one, or that begins no
     instruction; with the word of its instruction if that is asked for."""
 
@@ -112,7 +112,7 @@ def turns_with(machine: Machine, turns: range, sought: str) -> Iterator[int]:
         yield from [] if found is None else [found]
 
 
-def steps_of(machine: Machine, batch: Batch, labels: Labels, known: Known) -> list[Step]:
+def steps_of(machine: Machine, batch: Batch, labels: Labels, known: Known) -> list[CallStep]:
     """The steps of a batch. All other turns are in one routine, and in no call of it."""
     found = []
     pairs = zip(batch.turns, batch.registers, batch.registers[1:])
@@ -123,12 +123,12 @@ def steps_of(machine: Machine, batch: Batch, labels: Labels, known: Known) -> li
         if label is not was or before[POINTERS] != after[POINTERS] or turn in batch.others:
             first = last if last.reply is before else State.of(before, was)
             last = State.of(after, label)
-            found.append(Step(turn, first, last, batch.others.get(turn)))
+            found.append(CallStep(turn, first, last, batch.others.get(turn)))
     add_words(machine, [it for it in found if it.is_asked], known)
     return found
 
 
-def add_words(machine: Machine, steps: list[Step], known: Known) -> None:
+def add_words(machine: Machine, steps: list[CallStep], known: Known) -> None:
     """Asks for the words that the instructions of these turns were fetched with."""
     lines = [it.line_of_word() for it in steps]
     blocks = machine.blocks(lines, WORD_BYTES)

@@ -6,7 +6,7 @@ from ..core.register_rows import PLACE, STATE, STATUS
 from ..core.replies import INTERRUPT, MODES, Mode
 from ..core.values import dataclass, field
 from .batches import batches_of
-from .call_steps import Known, Step, steps_of
+from .call_steps import CallStep, Known, steps_of
 from .counting import Place
 from .explorer import Explorer
 from .levels import NEAR_BYTES, Stacks
@@ -126,7 +126,7 @@ class CallTree:
 
     # The walk
 
-    def take(self, step: Step, is_trap: bool) -> None:
+    def take(self, step: CallStep, is_trap: bool) -> None:
         before, after = step.before, step.after
         is_call = is_trap or step.is_call()
         is_plain = step.other is None and not is_call
@@ -143,7 +143,7 @@ class CallTree:
         elif not self.leave(step) and before.label is not after.label:
             self.jump(after.stack, after.label)
 
-    def is_other_stack(self, step: Step) -> bool:
+    def is_other_stack(self, step: CallStep) -> bool:
         """Whether SP has passed a call, or is far below where it was."""
         return any(
             step.pushed(stack) > NEAR_BYTES or frame is not None and sp > frame.slot
@@ -155,7 +155,7 @@ class CallTree:
         node = self.current(stack, label)
         node.entries += node is not self.base(stack)
 
-    def other(self, step: Step) -> Label:
+    def other(self, step: CallStep) -> Label:
         """What a turn did that began no instruction."""
         assert step.other is not None
         if step.other.act == IDLE:
@@ -165,7 +165,7 @@ class CallTree:
             what = step.other.interrupt() if is_interrupt else f"{step.other.act} trap"
         return self.others.setdefault(what, Label(None, None, f"({what})"))
 
-    def enter(self, step: Step, node: Node, site: Optional[Place]) -> None:
+    def enter(self, step: CallStep, node: Node, site: Optional[Place]) -> None:
         after = step.after
         routine = self.child(node, site, after.label)
         routine.entries += 1
@@ -173,7 +173,7 @@ class CallTree:
         self.pop(after.stack, slot)
         self.tops[after.stack] = Frame(slot, routine, self.tops[after.stack])
 
-    def leave(self, step: Step) -> bool:
+    def leave(self, step: CallStep) -> bool:
         """Whether calls have returned by this turn: SP is above what they pushed."""
         was_left = False
         for stack, sp in enumerate(step.after.pointers):

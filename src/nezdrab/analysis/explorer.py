@@ -27,7 +27,7 @@ MOST_DEEP = 16  # words that lead to one another
 
 
 @dataclass(frozen=True)
-class Step:
+class UndoStep:
     """A line at the prompt that made edits, and these edits; if it started the program again with
     other options, how it was started before and is since."""
 
@@ -37,18 +37,18 @@ class Step:
 
 
 @dataclass
-class Steps:
+class UndoSteps:
     """What `undo` takes back and `redo` makes again, and how many edits there are so far."""
 
     count: int = 0
-    done: list[Step] = field(default_factory=list)
-    undone: list[Step] = field(default_factory=list)
+    done: list[UndoStep] = field(default_factory=list)
+    undone: list[UndoStep] = field(default_factory=list)
     starts: Optional[tuple[Start, Start]] = None
 
     def note(self, line: str, journal: list[str]) -> None:
         """Takes in what a line has added to the edits, and whether it has changed the options."""
         if len(journal) > self.count or self.starts:
-            self.done.append(Step(line.strip(), journal[self.count :], self.starts))
+            self.done.append(UndoStep(line.strip(), journal[self.count :], self.starts))
             self.undone = []
         self.count, self.starts = len(journal), None
 
@@ -147,7 +147,7 @@ class Explorer:
     turn: int = 0
     shown: Optional[Shown] = None
     is_terminal: bool = False
-    steps: Steps = field(default_factory=Steps)
+    steps: UndoSteps = field(default_factory=UndoSteps)
     saved: list[str] = field(default_factory=list)
     sitting: Sitting = field(default_factory=Sitting)
     fading: Fading = field(default_factory=Fading)

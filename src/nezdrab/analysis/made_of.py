@@ -14,7 +14,7 @@ PLACES = {letter: at for at, letter in enumerate(LETTERS)}
 
 
 @dataclass(frozen=True)
-class Row:
+class MadeRow:
     """The letters of the low and the high byte of a result, and of the codes N, Z, V and C. A copy
     changes no bit."""
 
@@ -37,36 +37,36 @@ class Row:
 
 BOTH, ADD = "sSdD", "ADD"
 TWO_OPERANDS = {  # by bits 14-12
-    1: ("MOV", Row("s", "S", "S", "sS", "", "-", True)),
-    2: ("CMP", Row("-", "-", BOTH, BOTH, BOTH, BOTH)),
-    3: ("BIT", Row("-", "-", "SD", BOTH, "", "-")),
-    4: ("BIC", Row("sd", "SD", "SD", BOTH, "", "-")),
-    5: ("BIS", Row("sd", "SD", "SD", BOTH, "", "-")),
-    6: (ADD, Row("sd", BOTH, BOTH, BOTH, BOTH, BOTH)),  # and SUB
+    1: ("MOV", MadeRow("s", "S", "S", "sS", "", "-", True)),
+    2: ("CMP", MadeRow("-", "-", BOTH, BOTH, BOTH, BOTH)),
+    3: ("BIT", MadeRow("-", "-", "SD", BOTH, "", "-")),
+    4: ("BIC", MadeRow("sd", "SD", "SD", BOTH, "", "-")),
+    5: ("BIS", MadeRow("sd", "SD", "SD", BOTH, "", "-")),
+    6: (ADD, MadeRow("sd", BOTH, BOTH, BOTH, BOTH, BOTH)),  # and SUB
 }
-XOR = Row("sd", "SD", "SD", BOTH, "", "-")
+XOR = MadeRow("sd", "SD", "SD", BOTH, "", "-")
 ONE_OPERAND = {  # by bits 11-6
-    0o50: ("CLR", Row("", "", "", "", "", "")),
-    0o51: ("COM", Row("d", "D", "D", "dD", "", "")),
-    0o52: ("INC", Row("d", "dD", "dD", "dD", "dD", "-")),
-    0o53: ("DEC", Row("d", "dD", "dD", "dD", "dD", "-")),
-    0o54: ("NEG", Row("d", "dD", "dD", "dD", "dD", "dD")),
-    0o55: ("ADC", Row("dC", "dDC", "dDC", "dDC", "dDC", "dDC")),
-    0o56: ("SBC", Row("dC", "dDC", "dDC", "dDC", "dDC", "dDC")),
-    0o57: ("TST", Row("-", "-", "D", "dD", "", "")),
-    0o60: ("ROR", Row("dD", "DC", "C", "dDC", "dC", "d")),
-    0o61: ("ROL", Row("dC", "dD", "D", "dDC", "D", "D")),
-    0o62: ("ASR", Row("dD", "D", "D", "dD", "dD", "d")),
-    0o63: ("ASL", Row("d", "dD", "D", "dD", "D", "D")),
+    0o50: ("CLR", MadeRow("", "", "", "", "", "")),
+    0o51: ("COM", MadeRow("d", "D", "D", "dD", "", "")),
+    0o52: ("INC", MadeRow("d", "dD", "dD", "dD", "dD", "-")),
+    0o53: ("DEC", MadeRow("d", "dD", "dD", "dD", "dD", "-")),
+    0o54: ("NEG", MadeRow("d", "dD", "dD", "dD", "dD", "dD")),
+    0o55: ("ADC", MadeRow("dC", "dDC", "dDC", "dDC", "dDC", "dDC")),
+    0o56: ("SBC", MadeRow("dC", "dDC", "dDC", "dDC", "dDC", "dDC")),
+    0o57: ("TST", MadeRow("-", "-", "D", "dD", "", "")),
+    0o60: ("ROR", MadeRow("dD", "DC", "C", "dDC", "dC", "d")),
+    0o61: ("ROL", MadeRow("dC", "dD", "D", "dDC", "D", "D")),
+    0o62: ("ASR", MadeRow("dD", "D", "D", "dD", "dD", "d")),
+    0o63: ("ASL", MadeRow("d", "dD", "D", "dD", "D", "D")),
 }
-SWAB = Row("D", "d", "D", "D", "", "")
-SXT = Row("N", "N", "-", "N", "", "-")
+SWAB = MadeRow("D", "d", "D", "D", "", "")
+SXT = MadeRow("N", "N", "-", "N", "", "-")
 # The count of ASH and ASHC is in the low byte of the source. Of DIV the registers may stay.
 EXTENDED = {  # by bits 11-9
-    0: ("MUL", Row("sSr", "sSr", "sSr", "sSr", "", "sSr")),
-    1: ("DIV", Row("sSr", "sSr", "sSr", "sSr", "sSr", "sSr")),
-    2: ("ASH", Row("sr", "sr", "sr", "sr", "sr", "sr")),
-    3: ("ASHC", Row("sr", "sr", "sr", "sr", "sr", "sr")),
+    0: ("MUL", MadeRow("sSr", "sSr", "sSr", "sSr", "", "sSr")),
+    1: ("DIV", MadeRow("sSr", "sSr", "sSr", "sSr", "sSr", "sSr")),
+    2: ("ASH", MadeRow("sr", "sr", "sr", "sr", "sr", "sr")),
+    3: ("ASHC", MadeRow("sr", "sr", "sr", "sr", "sr", "sr")),
 }
 # A word that MFPI pushes, or that MTPI pops: codes as those of MOV.
 MOVED = TWO_OPERANDS[1][1]
@@ -77,12 +77,12 @@ def letters(*parts: str) -> str:
     return "".join(it for it in LETTERS if any(it in part for part in parts))
 
 
-def of_bytes(words: Row) -> Row:
+def of_bytes(words: MadeRow) -> MadeRow:
     """The row of the byte form: what the high byte was made of, the low byte is then. The high byte
     stays, except that MOVB to a register fills it with the sign."""
     low = KEPT if words.low == KEPT else in_low(words.low + words.high)
     n, z, v, c = (it if it == KEPT else in_low(it) for it in words.codes)
-    return Row(low, KEPT, n, z, v, c, words.is_copy)
+    return MadeRow(low, KEPT, n, z, v, c, words.is_copy)
 
 
 def in_low(part: str) -> str:
@@ -103,7 +103,7 @@ class Plan:
     previous mode."""
 
     name: str
-    row: Row
+    row: MadeRow
     is_byte: bool
 
 

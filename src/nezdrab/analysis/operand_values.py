@@ -19,7 +19,7 @@ NO_ADDRESS = "a register has no address: the instruction traps"
 
 
 @dataclass(frozen=True)
-class Operand:
+class OperandValue:
     """An operand as it is written. It is a register, by its name, or at a virtual address of a
     mode's space and at a place of the bus. `value` is what the instruction finds, `after` what is
     there before the next turn. Without a value the remark says why."""
@@ -125,7 +125,7 @@ class Walk:
     mode: Mode
     previous: Mode
     texts: list[str]
-    found: list[Operand] = field(default_factory=list)
+    found: list[OperandValue] = field(default_factory=list)
 
     @property
     def is_byte(self) -> bool:
@@ -180,15 +180,15 @@ class Walk:
             self.change(way.register, way.grows)
         return self.pointer(address) if way.is_deferred else address
 
-    def take(self, operand: Operand) -> None:
+    def take(self, operand: OperandValue) -> None:
         self.found.append(operand)
 
     def in_register(self, number: int, text: str, is_written: bool) -> None:
         name = self.name(number)
         mode = self.mode if number == SP else None
-        self.take(Operand(text, mode, name, value=self.get(number), is_written=is_written))
+        self.take(OperandValue(text, mode, name, value=self.get(number), is_written=is_written))
 
-    def in_memory(self, operand: Operand) -> None:
+    def in_memory(self, operand: OperandValue) -> None:
         """Takes an operand at an address, with what is there."""
         assert operand.mode is not None and operand.address is not None
         try:
@@ -214,7 +214,7 @@ class Walk:
         else:
             address = self.address(specifier, is_byte)
             space = mode or self.mode
-            of_memory = Operand(text, space, address=address, is_byte=is_byte)
+            of_memory = OperandValue(text, space, address=address, is_byte=is_byte)
             self.in_memory(replace(of_memory, is_written=is_written))
         del self.texts[0]
 
@@ -274,7 +274,7 @@ class Walk:
         if self.word & 0o77 < 0o10:
             raise Fault(NO_ADDRESS)
         address = self.address(self.word & 0o77)
-        self.take(Operand(self.texts.pop(0), self.mode, address=address, remark="goes there"))
+        self.take(OperandValue(self.texts.pop(0), self.mode, address=address, remark="goes there"))
 
     def call(self) -> None:
         number, link = self.word >> 6 & 7, self.texts.pop(0)
@@ -303,7 +303,8 @@ class Walk:
     def previous_pointer(self, is_written: bool) -> None:
         name = pointer(self.previous)
         value = self.registers[name]
-        self.take(Operand(self.texts[0], self.previous, name, value=value, is_written=is_written))
+        text, of_mode = self.texts[0], self.previous
+        self.take(OperandValue(text, of_mode, name, value=value, is_written=is_written))
 
     def from_previous(self) -> None:
         source = self.word & 0o77
@@ -349,7 +350,7 @@ def way_of(word: int) -> Optional[Callable[[Walk], None]]:
     return next((way for mask, bits, way in OTHERS if word & mask == bits), None)
 
 
-def walked(walk: Walk) -> list[Operand]:
+def walked(walk: Walk) -> list[OperandValue]:
     """The operands, as far as the instruction finds them. The last may have a remark instead of an
     address."""
     way = way_of(walk.word)
@@ -359,7 +360,7 @@ def walked(walk: Walk) -> list[Operand]:
         way(walk)
     except Fault as fault:
         if not walk.found or walk.found[-1].remark != str(fault):
-            walk.take(Operand(walk.texts[0], remark=str(fault)))
+            walk.take(OperandValue(walk.texts[0], remark=str(fault)))
     return walk.found
 
 
@@ -371,7 +372,7 @@ def texts_of(instruction: str) -> list[str]:
     return instruction.partition(" ")[2].split(",")
 
 
-def is_refused(memory: Memory, found: Sequence[Operand]) -> bool:
+def is_refused(memory: Memory, found: Sequence[OperandValue]) -> bool:
     """Whether a page let the instruction read its operands, but not write one."""
     if not found or found[-1].remark or all(it.place is None for it in found if it.is_written):
         return False
@@ -379,7 +380,9 @@ def is_refused(memory: Memory, found: Sequence[Operand]) -> bool:
     return memory.machine.found("first", turn, f"trap {ABORT:o}") is not None
 
 
-def with_after(memory: Memory, found: Sequence[Operand], after: Registers) -> Iterator[Operand]:
+def with_after(
+    memory: Memory, found: Sequence[OperandValue], after: Registers
+) -> Iterator[OperandValue]:
     """The operands with what is there after the turn, if the instruction writes them."""
     is_left = is_refused(memory, found)
     for it in found:
@@ -396,7 +399,7 @@ def with_after(memory: Memory, found: Sequence[Operand], after: Registers) -> It
 
 def operands_of(
     machine: Machine, turn: int, before: Registers, word: int, text: str
-) -> list[Operand]:
+) -> list[OperandValue]:
     """The operands of the instruction of a turn, which has these registers before it, this word and
     this text."""
     devices = machine.read_all([f"devices {turn}", f"devices {turn + 1}"])

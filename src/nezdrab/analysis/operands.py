@@ -11,7 +11,7 @@ from ..core.values import dataclass, field
 from .cells import ALL_CODES, KEPT, KSP, MASK, NOTHING, OF_THE_DISK, OUTPUTS
 from .cells import PC as POINT_CELL, PS, REST, USP, Cells, register_cells, word_cells
 from .transfers import Disk, Transfer
-from .turn_cycles import KERNEL, Row, Space
+from .turn_cycles import KERNEL, RegisterWords, Space
 
 STACK_LIMIT = 0o340
 WHOLE_PS = ((REST, *ALL_CODES), (REST,))  # the low and the high byte of PS
@@ -113,7 +113,7 @@ class Operands:
         self.machine = machine
         self.space, self.disk = Space(machine), Disk(machine)
         self.registers: list[int] = []
-        self.after = Row((), 0, 0)
+        self.after = RegisterWords((), 0, 0)
         self.vector: Optional[int] = None  # of the trap that the turn has, until it comes
         self.pc = self.mode = self.previous = self.instant = self.unknown = 0
         self.turn = 0

@@ -26,7 +26,7 @@ BLOCK, MOST_BLOCKS, MOST_SINGLES, WINDOW_DELAYS, WINDOW_TURNS = 16, 8, 3, 32, 10
 MOST_TURNS_BACK, MOST_LOOKS = 20_000, 20_000
 
 
-class Kind(IntEnum):
+class OriginKind(IntEnum):
     """A write by the act of a turn or by the disk; or where the way back ends."""
 
     MADE = 0
@@ -43,13 +43,13 @@ class Origin(NamedTuple):
     """A write or an end. `at` is the number of the move in its turn, of the cell, or of the
     event."""
 
-    kind: Kind
+    kind: OriginKind
     turn: int
     at: int
 
     @property
     def is_write(self) -> bool:
-        return self.kind <= Kind.MOVED
+        return self.kind <= OriginKind.MOVED
 
 
 class Input(NamedTuple):
@@ -70,10 +70,10 @@ class Graph:
 
     @property
     def is_whole(self) -> bool:
-        return not self.left and not any(it.kind == Kind.TOO_FAR for it in self.inputs)
+        return not self.left and not any(it.kind == OriginKind.TOO_FAR for it in self.inputs)
 
     def events(self) -> list[int]:
-        return sorted({it.at for it in self.inputs if it.kind == Kind.EVENT})
+        return sorted({it.at for it in self.inputs if it.kind == OriginKind.EVENT})
 
 
 class Origins:
@@ -159,7 +159,7 @@ class Origins:
     def outside(self, cell: int, turn: int, begun: int) -> Origin:
         """The origin of a cell in a write before the turn, or in the beginning of turn `begun`."""
         if cell == PC:
-            return Origin(Kind.POINT, turn, 0)
+            return Origin(OriginKind.POINT, turn, 0)
         if is_core(cell):
             return self.in_core(cell, turn, begun)
         if is_of_drive(cell):
@@ -171,14 +171,14 @@ class Origins:
     def in_core(self, cell: int, turn: int, begun: int) -> Origin:
         moved = self.flow(turn).transfer if begun == turn else None
         if moved is not None and moved.is_read and cell & ~1 in moved.in_core:
-            return Origin(Kind.MOVED, turn, cell)
+            return Origin(OriginKind.MOVED, turn, cell)
         while True:
             last = self.writes.before(turn, cell & ~1)
             if last is None:
-                return Origin(Kind.START, 0, first_of(cell))
+                return Origin(OriginKind.START, 0, first_of(cell))
             turn = last.turn
             if last.writer == DISK:
-                return Origin(Kind.MOVED, turn, cell)
+                return Origin(OriginKind.MOVED, turn, cell)
             found = written_in(self.flow(turn), cell, len(self.flow(turn).moves))
             if found is not None:
                 return found
@@ -186,14 +186,14 @@ class Origins:
 
     def of_device(self, cell: int, turn: int, begun: int) -> Origin:
         if cell & ~1 not in INPUTS:
-            return Origin(Kind.DEVICE, turn, cell & ~1)
+            return Origin(OriginKind.DEVICE, turn, cell & ~1)
         if cell & ~1 == PRB:
-            return Origin(Kind.TAPE, turn, PRB)
+            return Origin(OriginKind.TAPE, turn, PRB)
         events = self.brought.get(cell, [])
         at = bisect.bisect_right(events, (begun, 1 << 40))
         if at:
-            return Origin(Kind.EVENT, events[at - 1][0], events[at - 1][1])
-        return Origin(Kind.START, 0, cell & ~1)
+            return Origin(OriginKind.EVENT, events[at - 1][0], events[at - 1][1])
+        return Origin(OriginKind.START, 0, cell & ~1)
 
     def in_register(self, cell: int, turn: int) -> Origin:
         first, count = turn - turn % BLOCK, 1
@@ -204,9 +204,9 @@ class Origins:
             writes = self.written[first].get(cell, [])
             at = bisect.bisect_left(writes, (turn, 0))
             if at:
-                return Origin(Kind.MADE, *writes[at - 1])
+                return Origin(OriginKind.MADE, *writes[at - 1])
             first -= BLOCK
-        return Origin(Kind.START, 0, first_of(cell)) if first < 0 else too_far(turn, cell)
+        return Origin(OriginKind.START, 0, first_of(cell)) if first < 0 else too_far(turn, cell)
 
     def on_drive(self, cell: int, begun: int) -> Origin:
         """The last write of the disk to a byte of a drive, up to the beginning of this turn."""
@@ -216,10 +216,10 @@ class Origins:
             for it in reversed(self.transfers(number)):
                 is_here = it.drive == drive and word in it.on_drive
                 if it.turn <= begun and is_here and not it.is_read:
-                    return Origin(Kind.MOVED, it.turn, cell)
+                    return Origin(OriginKind.MOVED, it.turn, cell)
             if (begun - number * self.window) // delay > MOST_LOOKS:
                 return too_far(begun, cell)
-        return Origin(Kind.START, 0, first_of(cell))
+        return Origin(OriginKind.START, 0, first_of(cell))
 
     def transfers(self, number: int) -> list[Transfer]:
         """The reads and writes of the disk that complete in this window of turns."""
@@ -238,11 +238,11 @@ class Origins:
     # The way back
 
     def inputs(self, origin: Origin) -> list[Input]:
-        if origin.kind == Kind.MADE:
+        if origin.kind == OriginKind.MADE:
             move = self.flow(origin.turn).moves[origin.at]
             cells = dict.fromkeys(move.values + (move.addresses if self.places else ()))
             return [Input(it, self.of_input(it, origin.turn, origin.at)) for it in cells]
-        return list(self.moved(origin)) if origin.kind == Kind.MOVED else []
+        return list(self.moved(origin)) if origin.kind == OriginKind.MOVED else []
 
     def moved(self, origin: Origin) -> Iterator[Input]:
         """What a cell that the disk has written comes from."""
@@ -298,7 +298,7 @@ class Origins:
 
 
 def too_far(turn: int, cell: int) -> Origin:
-    return Origin(Kind.TOO_FAR, turn, first_of(cell))
+    return Origin(OriginKind.TOO_FAR, turn, first_of(cell))
 
 
 def first_of_instant(flow: Flow, number: int) -> int:
@@ -312,5 +312,5 @@ def written_in(flow: Flow, cell: int, end: int) -> Optional[Origin]:
     """The last write of a cell by the moves of the turn before number `end`."""
     for number in range(end - 1, -1, -1):
         if flow.moves[number].cell == cell:
-            return Origin(Kind.MADE, flow.turn, number)
+            return Origin(OriginKind.MADE, flow.turn, number)
     return None

@@ -30,7 +30,7 @@ class NotFollowed(ExploreError):
     """A turn does what these rules don't tell."""
 
 
-class Row(NamedTuple):
+class RegisterWords(NamedTuple):
     """The registers before a turn: R0 to R5, KSP and USP, and PC and PS."""
 
     words: tuple[int, ...]
@@ -43,8 +43,8 @@ class Seen(NamedTuple):
     """A turn with the registers before and after it."""
 
     act: Turn
-    before: Row
-    after: Row
+    before: RegisterWords
+    after: RegisterWords
 
 
 @dataclass
@@ -67,12 +67,12 @@ class Part:
         return {mode * BLOCKS_OF_A_SPACE + block: (mode, block) for mode, block in sorted(code)}
 
 
-def rows(machine: Machine, turns: Iterable[int]) -> Iterator[Row]:
+def rows(machine: Machine, turns: Iterable[int]) -> Iterator[RegisterWords]:
     for block in machine.ascending([b"regs %d" % it for it in turns], REGS_BYTES):
         for found in REGS.finditer(block):
             *digits, state = found.groups()
             words = tuple(int(it, 8) for it in digits)
-            yield Row(words[:PC_AT], words[PC_AT], words[PS_AT], state == b"halted")
+            yield RegisterWords(words[:PC_AT], words[PC_AT], words[PS_AT], state == b"halted")
 
 
 def trap_of(machine: Machine, turn: int) -> Optional[int]:

@@ -8,7 +8,7 @@ from ..core.replies import INSTRUCTION
 from .cells import ALL_CODES, C, KSP, MASK, N, NAMES, NOTHING, OF_THE_DISK, REST, USP, Cells
 from .cells import register_cells, word_cells
 from .crew import Progress
-from .made_of import EXTENDED, KEPT, MOVED, XOR, Row, made_of, plan_of
+from .made_of import EXTENDED, KEPT, MOVED, XOR, MadeRow, made_of, plan_of
 from .operands import POINT, STACK_LIMIT, WHOLE_PS, Access, BelowTheLimit, Flow, How, Operand
 from .operands import Operands, Stopped, pointer_of
 from .transfers import Transfer
@@ -267,7 +267,7 @@ class Flows(Operands):
         else:
             self.control(word)
 
-    def two_operands(self, row: Row, source: int, destination: int, is_byte: bool) -> None:
+    def two_operands(self, row: MadeRow, source: int, destination: int, is_byte: bool) -> None:
         is_late = source < 8 <= destination
         at = self.find(source, is_byte)
         if is_late:
@@ -279,14 +279,14 @@ class Flows(Operands):
         old = (NOTHING, NOTHING) if row.is_copy else self.read(to, is_byte)
         self.finish(row, (*values, *old), to, is_byte, at.cells)
 
-    def one_operand(self, row: Row, destination: int, is_byte: bool) -> None:
+    def one_operand(self, row: MadeRow, destination: int, is_byte: bool) -> None:
         to = self.find(destination, is_byte)
         is_read = "d" in row.z + row.high
         old = self.read(to, is_byte) if is_read else (NOTHING, NOTHING)
         self.finish(row, (NOTHING, NOTHING, *old), to, is_byte, NOTHING)
 
     def finish(
-        self, row: Row, values: Sequence[Cells], to: Operand, is_byte: bool, addresses: Cells
+        self, row: MadeRow, values: Sequence[Cells], to: Operand, is_byte: bool, addresses: Cells
     ) -> None:
         """The value is written, and the codes are stored: both of what was before."""
         inputs = (*values, NOTHING, OLD_C, OLD_N)
@@ -301,7 +301,7 @@ class Flows(Operands):
         if self.write(to, is_byte and not is_extended, (low, high), addresses, how):
             self.codes(row, inputs, addresses + to.cells)
 
-    def codes(self, row: Row, inputs: Sequence[Cells], addresses: Cells) -> None:
+    def codes(self, row: MadeRow, inputs: Sequence[Cells], addresses: Cells) -> None:
         for cell, part in zip(ALL_CODES, row.codes):
             if part != KEPT:
                 self.move(cell, made_of(part, inputs), addresses if part else NOTHING, How.CODE)
@@ -319,7 +319,7 @@ class Flows(Operands):
             pair = (register,) if name == "ASH" else tuple({register, register | 1})
             self.change_registers(row, register, tuple(sorted(pair)), operand)
 
-    def change_registers(self, row: Row, register: int, pair: Cells, operand: int) -> None:
+    def change_registers(self, row: MadeRow, register: int, pair: Cells, operand: int) -> None:
         at = self.find(operand, False)
         values = self.read(at, False)
         read = (register,) if row is EXTENDED[0][1] else pair

@@ -15,8 +15,8 @@ from .disk_words import DiskWord
 from .explorer import Explorer
 from .labels import events_with_data
 from .operands import pointer_of
-from .origins import Graph, Kind, Origin, Origins
-from .steps import Step, Steps
+from .origins import Graph, Origin, OriginKind, Origins
+from .steps import ValueStep, ValueSteps
 
 ASKED = ("[core] A", "disk [D] I", "R", "PC", "text [C]")
 ELSEWHERE = "a write that went to another address, and might have come here, isn't found"
@@ -84,7 +84,7 @@ def in_quotes(byte: int) -> str:
 
 def add_roots(account: Account, begins: Sequence[Root]) -> None:
     """Bytes of one word that come from one step are one."""
-    found: dict[Step, Root] = {}
+    found: dict[ValueStep, Root] = {}
     for root in begins:
         found.setdefault(account.steps.step_of(root.origin), root)
     for step, root in found.items():
@@ -104,7 +104,7 @@ def end_lines(account: Account, graph: Graph, turn: int, most: int) -> Iterator[
     limit = "" if graph.is_whole else ", as far as it was followed"
     made = f"event{'s' if len(events) > 1 else ''} {ranges(events)}" if events else "no event"
     yield f"made of {made}, not of {ranges(others)}{limit}" if others else f"made of {made}{limit}"
-    ends = [it for it in steps.ordered if not it.is_write and it.kind != Kind.EVENT]
+    ends = [it for it in steps.ordered if not it.is_write and it.kind != OriginKind.EVENT]
     if ends:
         shown = "; ".join(account.end(it) for it in ends[:MOST_ENDS])
         more = f"; and {len(ends) - MOST_ENDS} more" if len(ends) > MOST_ENDS else ""
@@ -125,7 +125,8 @@ def change_lines(account: Account, what: Asked, turn: int) -> Iterator[str]:
     if len(changes) == COUNTED_CHANGES:
         return
     word_of = what.cells[0]
-    known = {it.turn for it in account.steps.inputs if (it.kind, it.at) == (Kind.MOVED, word_of)}
+    moved = (OriginKind.MOVED, word_of)
+    known = {it.turn for it in account.steps.inputs if (it.kind, it.at) == moved}
     gone = [it for it in changes if it not in known]
     values = [(word.value(it), word.value(it + 1)) for it in gone[:MOST_CHANGES]]
     shown = ", ".join(f"{it} ({old:06o} to {new:06o})" for it, (old, new) in zip(gone, values))
@@ -169,7 +170,7 @@ def why(explorer: Explorer, arguments: Arguments) -> Iterator[str]:
     origins = Origins(machine, turn, bool(arguments.optional("places")))
     begins = roots(machine, origins, what, turn)
     graph = origins.graph([it.origin for it in begins], most)
-    steps = Steps(origins, graph)
+    steps = ValueSteps(origins, graph)
     account = Account(explorer, steps)
     value = account.value(what.cells[0], turn) if what.cells and "," not in what.name else ""
     yield f"{what.name} before turn {turn}{f': {value}' if value else ''}"

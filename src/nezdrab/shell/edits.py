@@ -2,7 +2,7 @@
 from typing import Iterator
 
 from ..analysis.command import Arguments, command
-from ..analysis.explorer import Explorer, Step
+from ..analysis.explorer import Explorer, UndoStep
 from ..analysis.restart import begin_as
 from ..core.errors import ExploreError
 from ..core.in_words import counted
@@ -11,7 +11,7 @@ from ..core.interrupts import INTERRUPTS
 MOST_LOOKED_AT = 64  # edits that are made at once
 
 
-def step_in_words(step: Step) -> str:
+def step_in_words(step: UndoStep) -> str:
     count = len(step.edits)
     return step.line if count < 2 else f"{step.line} ({counted(count, 'edit')})"
 

@@ -7,7 +7,7 @@ from nezdrab.analysis.cells import ALL_CODES, CODES, NAMES, drive_cell, register
 from nezdrab.analysis.explorer import Explorer
 from nezdrab.analysis.follow import Followed
 from nezdrab.analysis.labels import Labels
-from nezdrab.analysis.made_of import TWO_OPERANDS, Row, plan_of
+from nezdrab.analysis.made_of import TWO_OPERANDS, MadeRow, plan_of
 from nezdrab.analysis.turn_flow import Flows
 from nezdrab.core.engine import Machine
 from nezdrab.core.errors import ExploreError
@@ -85,7 +85,7 @@ class AnotherByte(OnMachine):
     def test_a_row_that_lacks_the_event_is_found(self) -> None:
         self.addCleanup(plan_of.cache_clear)
         plan_of.cache_clear()
-        with mock.patch.dict(TWO_OPERANDS, {6: ("ADD", Row("d", "dD", "D", "D", "D", "D"))}):
+        with mock.patch.dict(TWO_OPERANDS, {6: ("ADD", MadeRow("d", "dD", "D", "D", "D", "D"))}):
             _, wrong = self.differences(5)
         self.assertTrue(wrong)
 

@@ -6,7 +6,7 @@ from typing import Callable
 from unittest import mock
 
 from nezdrab.analysis.cells import ALL_CODES, CODES, NAMES, register_cells, word_cells
-from nezdrab.analysis.made_of import EXTENDED, ONE_OPERAND, TWO_OPERANDS, Row, plan_of
+from nezdrab.analysis.made_of import EXTENDED, ONE_OPERAND, TWO_OPERANDS, MadeRow, plan_of
 from nezdrab.analysis.operands import Flow
 from nezdrab.analysis.turn_flow import Flows
 from nezdrab.core.engine import Machine
@@ -159,9 +159,9 @@ class MadeOf(OnMachine):
 
     def test_a_row_that_lacks_a_cell_is_found(self) -> None:
         lacking = (
-            (TWO_OPERANDS, 6, Row("sd", "SD", "sSdD", "sSdD", "sSdD", "sSdD"), 0o060004),
-            (ONE_OPERAND, 0o60, Row("d", "DC", "C", "dDC", "dC", "d"), 0o006004),
-            (EXTENDED, 3, Row("r", "sr", "sr", "sr", "sr", "sr"), 0o073400),
+            (TWO_OPERANDS, 6, MadeRow("sd", "SD", "sSdD", "sSdD", "sSdD", "sSdD"), 0o060004),
+            (ONE_OPERAND, 0o60, MadeRow("d", "DC", "C", "dDC", "dC", "d"), 0o006004),
+            (EXTENDED, 3, MadeRow("r", "sr", "sr", "sr", "sr", "sr"), 0o073400),
         )
         machine = self.explorer().machine
         self.addCleanup(plan_of.cache_clear)

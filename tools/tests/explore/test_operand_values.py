@@ -7,8 +7,8 @@ from typing import Iterator
 from nezdrab.analysis.disassembly import Disassembler
 from nezdrab.analysis.explorer import Explorer
 from nezdrab.analysis.listing import SeenTurn, seen
-from nezdrab.analysis.operand_values import STATUS, Memory, Operand, Walk, operands_of, texts_of
-from nezdrab.analysis.operand_values import walked, way_of
+from nezdrab.analysis.operand_values import STATUS, Memory, OperandValue, Walk, operands_of
+from nezdrab.analysis.operand_values import texts_of, walked, way_of
 from nezdrab.core.engine import Machine, Start
 from nezdrab.core.replies import INSTRUCTION, Mode
 
@@ -35,9 +35,9 @@ class Operands(OfSystems):
         self.addCleanup(disassembler.close)
         return Explorer(machine, disassembler)
 
-    def check_turn(self, machine: Machine, it: SeenTurn) -> list[Operand]:
+    def check_turn(self, machine: Machine, it: SeenTurn) -> list[OperandValue]:
         """The operands of a turn, whose values are those of core and of the registers."""
-        turn, found = it.turn.turn, list[Operand]()
+        turn, found = it.turn.turn, list[OperandValue]()
         after = machine.registers(turn + 1)
         for operand in operands_of(machine, turn, it.registers, it.words[0], it.text):
             found.append(operand)
@@ -56,7 +56,7 @@ class Operands(OfSystems):
         self.check_modes(it, found)
         return found
 
-    def check_modes(self, it: SeenTurn, found: list[Operand]) -> None:
+    def check_modes(self, it: SeenTurn, found: list[OperandValue]) -> None:
         """The spaces of operands, and that each register is there once."""
         previous = Mode.previous(it.registers.ps)
         of_previous = {"MFPI": found[:1], "MTPI": found[1:]}.get(it.text.split()[0], [])
@@ -75,7 +75,7 @@ class Operands(OfSystems):
         walked(walk)
         return walk
 
-    def check_left(self, machine: Machine, it: SeenTurn, found: list[Operand]) -> None:
+    def check_left(self, machine: Machine, it: SeenTurn, found: list[OperandValue]) -> None:
         """What the turn, which has no trap, has written: as the operands say, and nothing else."""
         turn, after = it.turn.turn, machine.registers(it.turn.turn + 1)
         written = {op.register for op in found if op.is_written}
