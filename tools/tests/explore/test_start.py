@@ -37,6 +37,23 @@ class Start(Case):
         self.assertTrue(self.kept_in(cache / "nezdrab" / "python"))
         self.assertFalse(home.exists())
 
+    def test_compiled_modules_that_were_cut(self) -> None:
+        """A full disk leaves such: explore starts, and they are whole after the next start."""
+        home = self.folder / "home"
+        self.starts(HOME=str(home))
+        whole = {it: it.read_bytes() for it in home.rglob("*.pyc")}
+        self.assertGreater(len(whole), 10)
+        for at, (path, data) in enumerate(whole.items()):
+            cuts = (0, 7, 16, 17, len(data) // 2, len(data) - 1)
+            path.write_bytes(data[: cuts[at % len(cuts)]])
+        for _ in range(2):
+            self.starts(HOME=str(home))
+        again = {it: it.read_bytes() for it in whole}
+        for path, data in again.items():
+            self.assertGreater(len(data), 0.9 * len(whole[path]), path)
+        self.starts(HOME=str(home))
+        self.assertEqual({it: it.read_bytes() for it in whole}, again)
+
     def test_nothing_is_kept_without_a_place(self) -> None:
         before = self.kept_in(ROOT / "src")
         self.starts()
