@@ -139,7 +139,7 @@ class Space:
         for address in self.stored:
             self.known.pop(address, None)
         self.stored.clear()
-        self.is_remapped = False
+        self.remap(self.blocks)
         self.turn = turn
         self.transfer = transfer if transfer is not None and transfer.is_read else None
         if self.transfer is not None:
@@ -176,6 +176,10 @@ class Space:
             self.stored.clear()
         self.known.update(part.words)
         self.blocks = part.blocks
+
+    def remap(self, blocks: dict[int, Optional[int]]) -> None:
+        """The mapping is as before the turn: these blocks are under it."""
+        self.blocks, self.is_remapped = blocks, False
 
     def wrote(self, address: int) -> None:
         if address < IO_PAGE:

@@ -72,6 +72,7 @@ class Flows(Operands):
     def flow(self, seen: Seen, transfer: Optional[Transfer]) -> Flow:
         """The turn is walked as if no operand trapped. Whether one did is asked only if the
         registers after it don't show that none did."""
+        blocks = self.space.blocks
         try:
             self.is_asked = False
             self.walk(seen, transfer, None)
@@ -83,6 +84,7 @@ class Flows(Operands):
         except (Stopped, NotFollowed):
             pass
         self.is_asked = True
+        self.space.remap(blocks)
         self.walk(seen, transfer, trap_of(self.machine, seen.act.turn))
         self.check()
         return self.flowing

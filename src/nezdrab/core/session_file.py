@@ -56,7 +56,7 @@ def steps_taken(machine: Machine, steps: Iterator[str], first: int, undone: list
             undone.append(journal[-1])
             machine.take_back(1)
         elif not is_undo and undone:
-            machine.edit_all([undone.pop()])
+            machine.make_again([undone.pop()])
         else:
             replies.append(NOTHING_LEFT)
             continue
