@@ -34,7 +34,7 @@ def ranges(numbers: Sequence[int]) -> str:
     return ", ".join(shown) or "none"
 
 
-class Place(NamedTuple):
+class CellBefore(NamedTuple):
     """A cell before a turn."""
 
     cell: int
@@ -44,7 +44,7 @@ class Place(NamedTuple):
 class Head(NamedTuple):
     """The beginning of a line: a name, or a cell with its value, and how often it was copied."""
 
-    of: Union[str, Place]
+    of: Union[str, CellBefore]
     copied: str
 
 
@@ -62,11 +62,11 @@ class Line:
     note: str = ""
 
     @property
-    def result(self) -> Place:
+    def result(self) -> CellBefore:
         """What the step gave to the cell that it wrote."""
-        return Place(self.written, self.step.turn + 1)
+        return CellBefore(self.written, self.step.turn + 1)
 
-    def places(self) -> Iterator[Place]:
+    def places(self) -> Iterator[CellBefore]:
         """Those whose values it shows."""
         yield from [self.result] if self.step.is_write else []
         for it in (self.head, self.run_head):
@@ -96,7 +96,7 @@ class Account:
     def name(self, cell: int) -> str:
         return name_of(cell, self.machine.setup.version == 2)
 
-    def question(self, at: Place) -> str:
+    def question(self, at: CellBefore) -> str:
         """The line that tells the word of a cell, or an empty text."""
         if is_of_drive(at.cell):
             byte = byte_of_drive(at.cell)
@@ -105,7 +105,7 @@ class Account:
             return f"mem {at.turn} {at.cell & ~1:o} 1"
         return f"regs {at.turn}" if is_register(at.cell) or CODES <= at.cell < DRIVES else ""
 
-    def in_reply(self, at: Place, reply: str) -> str:
+    def in_reply(self, at: CellBefore, reply: str) -> str:
         """The value of a cell in the reply to its question."""
         if is_of_drive(at.cell) or is_core(at.cell):
             return f"{words_of(reply)[0]:06o}"
@@ -115,7 +115,7 @@ class Account:
         is_code = at.cell < CODES + 4
         return str(registers.ps >> at.cell - CODES & 1) if is_code else f"{registers.ps:06o}"
 
-    def know_values(self, places: Iterable[Place]) -> None:
+    def know_values(self, places: Iterable[CellBefore]) -> None:
         """Asks together for the values before these turns, upwards."""
         asked = {it: self.question(it) for it in {*places} - self.values.keys()}
         ordered = sorted((it for it in asked if asked[it]), key=lambda it: it.turn)
@@ -125,7 +125,7 @@ class Account:
 
     def value(self, cell: int, turn: int) -> str:
         """The value of the word of a cell before a turn, if a question tells it."""
-        self.know_values([Place(cell, turn)])
+        self.know_values([CellBefore(cell, turn)])
         return self.values[cell, turn]
 
     def shown(self, head: Head) -> str:
@@ -225,7 +225,7 @@ class Account:
         return is_full
 
     def head(self, step: ValueStep, source: Source) -> Head:
-        return Head(Place(source.cell, step.turn), self.copied(source.copies))
+        return Head(CellBefore(source.cell, step.turn), self.copied(source.copies))
 
     def add_run(self, line: Line) -> bool:
         """One value that goes through many operations before this one: one line for all."""

@@ -1,18 +1,18 @@
 """The turns of a batch that a walk along the calls has to look at."""
-from typing import Iterator, NamedTuple, Optional
+from typing import NamedTuple, Optional
 
 from ..core.engine import Machine
+from ..core.hardware import OPERAND_TRAPS
 from ..core.register_rows import KSP, PC, PLACE, POINTERS, STATUS, USP
 from ..core.replies import MODES, DiskFunction, Mode, Registers, Turn
 from ..core.turn_batches import Batch
 from ..core.values import dataclass
-from .finder import parts_of
+from .finder import Finder
 from .levels import JSR, NEAR_BYTES, WITH_NUMBER, WITHOUT, Done, is_load
 from .routines import Label, Labels
 from .transfers import functions_done
 
 SEQUENTIAL = (2, 4, 6)  # bytes from an instruction to the one behind it
-OTHER_TRAPS = (0o4, 0o10, 0o250)  # those of instructions whose words don't say that they trap
 WORD_BYTES = 15  # of a reply of `virtual`
 
 
@@ -94,22 +94,10 @@ class Known:
 
     @classmethod
     def of(cls, machine: Machine, turns: range) -> "Known":
-        traps = {
-            turn
-            for vector in OTHER_TRAPS
-            for part in parts_of(turns)
-            for turn in turns_with(machine, part, f"trap {vector:o}")
-        }
+        finder = Finder(machine)
+        traps = {turn for it in OPERAND_TRAPS for turn in finder.each(turns, f"trap {it:o}")}
         done = functions_done(machine, turns)
         return cls(traps, {it.turn for it in done if it.function == DiskFunction.READ})
-
-
-def turns_with(machine: Machine, turns: range, sought: str) -> Iterator[int]:
-    """Each of the turns that is sought, in the words of the line `first`."""
-    while turns:
-        found = machine.found("first", turns, sought)
-        turns = range(turns.stop if found is None else found + 1, turns.stop)
-        yield from [] if found is None else [found]
 
 
 def steps_of(machine: Machine, batch: Batch, labels: Labels, known: Known) -> list[CallStep]:

@@ -8,7 +8,6 @@ from ..core.engine import MOST_WORDS, SHORT_SENT_AHEAD, Machine, in_parts
 from ..core.errors import ExploreError
 from ..core.hardware import DRIVE_WORDS
 from ..core.language import is_decimal
-from ..core.options import UNIT_BYTES
 from ..core.replies import Mode, words_of
 from ..core.values import dataclass, field
 from .command import Arguments, command
@@ -48,7 +47,7 @@ class Words:
 
 
 def in_core(machine: Machine, turn: int, address: int, count: int) -> Words:
-    top = machine.setup.units * UNIT_BYTES
+    top = machine.setup.core_end
     places, end = range(address, address + 2 * count, 2), f"core ends at {top - 2:06o}"
     return read_words(machine, 6, places, top, end, partial(core_lines, turn))
 

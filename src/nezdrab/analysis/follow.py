@@ -11,7 +11,7 @@ from .branches import LOOKED_AT
 from .cells import OUTPUTS, TPB, byte_of_drive, is_core, is_of_drive, name_of, some_of
 from .command import Arguments, command
 from .explorer import Explorer
-from .labels import Brought, Carried, Labels, Moved, events_with_data
+from .labels import Brought, Carried, Labels, MovedCell, events_with_data
 from .listing import turns_in_words
 from .operands import Flow, How
 from .transfers import Transfer
@@ -104,8 +104,8 @@ class Followed:
 
     # Transfers
 
-    def transfer(self, moved: Transfer, cells: Sequence[Moved]) -> None:
-        words: dict[int, list[Moved]] = {}
+    def transfer(self, moved: Transfer, cells: Sequence[MovedCell]) -> None:
+        words: dict[int, list[MovedCell]] = {}
         for it in cells:
             words.setdefault(it.cell & ~1, []).append(it)
         self.reached.difference_update(it.cell for it in cells)
@@ -187,11 +187,11 @@ class Followed:
         return name_of(cell, self.machine.setup.version == 2)
 
 
-def has_now(cells: Sequence[Moved]) -> bool:
+def has_now(cells: Sequence[MovedCell]) -> bool:
     return any(it.now for it in cells)
 
 
-def had_before(cells: Sequence[Moved]) -> bool:
+def had_before(cells: Sequence[MovedCell]) -> bool:
     return any(it.before for it in cells)
 
 

@@ -22,7 +22,7 @@ class Carried(NamedTuple):
     chosen: int
 
 
-class Moved(NamedTuple):
+class MovedCell(NamedTuple):
     """A cell that a transfer writes, and the labels before and after it."""
 
     cell: int
@@ -77,12 +77,12 @@ class Labels:
         for it in found[begun:]:
             self.put(it.move.cell, it.now)
 
-    def transfer(self, moved: Transfer) -> list[Moved]:
+    def transfer(self, moved: Transfer) -> list[MovedCell]:
         """Carries the labels through a transfer of the disk."""
         more = self.of(ADDRESS_OF_A_TRANSFER) if self.places else 0
         bits = self.bits
         found = [
-            Moved(cell, bits.get(cell, 0), more | (0 if source is None else bits.get(source, 0)))
+            MovedCell(cell, bits.get(cell, 0), more | (0 if source is None else bits.get(source, 0)))
             for cell, source in moved.pairs()
         ]
         for it in found:

@@ -8,7 +8,8 @@ from ..core.replies import INSTRUCTION, INTERRUPT, LastWrite, Mode, Registers, T
 from ..core.replies import words_of
 from ..core.values import dataclass, field
 from .finder import growing_parts
-from .listing import UNIT_BYTES, VIRTUAL
+from .listing import VIRTUAL
+from .turn_cycles import trap_of
 
 MOST_WORDS_OF_A_STACK, WORDS_AT_ONCE = 256, 64  # one group without a call ends the stack
 MOST_CHANGES = 3  # of a word after the push, which are looked through for the call
@@ -16,7 +17,6 @@ CHECKED_TURNS = 1_000_000  # in which a line looks whether routines were left
 MOST_TRIES, NEAR_BYTES = 64, 32
 NOT_CHECKED, LOADED = "not checked", "SP was loaded since"
 JSR, WITH_NUMBER, WITHOUT = 0o004, {0o210: "EMT", 0o211: "TRAP"}, {3: "BPT", 4: "IOT"}
-OTHER_TRAPS = (0o4, 0o10, 0o250)
 
 
 def pointer(mode: Mode) -> str:
@@ -66,7 +66,7 @@ class Done:
         """All is asked at once. A transfer that ends in the turn comes before it."""
         place = next(machine.places([(number, before.mode, before.pc)]))
         lines = [f"trail {number + 1} 1", f"regs {number + 1}"]
-        if place is None or place % 2 or place >= machine.setup.units * UNIT_BYTES:
+        if place is None or place % 2 or place >= machine.setup.core_end:
             trail, registers = machine.read_all(lines)
             return cls(turns_of(trail)[0], None, Registers.of(registers))
         lines = [f"mem {number} {place:o} 1", *lines, f"mem {number + 1} {place:o} 1"]
@@ -80,7 +80,7 @@ class Done:
 
 def pushed(machine: Machine, turn: int, after: Registers) -> tuple[list[LastWrite], int]:
     """What this turn wrote at SP and behind it, one word or two, and the place of the first."""
-    slot, top = after.words[pointer(after.mode)], machine.setup.units * UNIT_BYTES
+    slot, top = after.words[pointer(after.mode)], machine.setup.core_end
     asked = [(turn + 1, after.mode, (slot + it) % VIRTUAL) for it in (0, 2)]
     places = list(machine.places(asked))
     in_core = [it for it in places if it is not None and not it % 2 and it < top]
@@ -103,9 +103,7 @@ def trap_kind(machine: Machine, turn: Turn, word: Optional[int]) -> str:
         return f"{WITH_NUMBER[word >> 8]} {word & 0o377:o}"
     if word in WITHOUT:
         return WITHOUT[word]
-    one = range(turn.turn, turn.turn + 1)
-    vectors = (it for it in OTHER_TRAPS if machine.found("first", one, f"trap {it:o}") is not None)
-    return f"trap {next(vectors, 0):03o}"
+    return f"trap {trap_of(machine, turn.turn) or 0:03o}"
 
 
 def call_in(machine: Machine, number: int) -> Optional[Call]:
@@ -188,7 +186,7 @@ class Stacks:
     def _pushed_at(self, end: int, mode: Mode, slots: range) -> list[Call]:
         """The calls that wrote these words of the stack last, or before what changed them since.
         The turns are asked upwards: from call to call the machine would go back."""
-        top = self.machine.setup.units * UNIT_BYTES
+        top = self.machine.setup.core_end
         places = self.machine.places([(end, mode, it) for it in slots])
         found: list[Call] = []
         open_words = {

@@ -12,7 +12,7 @@ from .command import Arguments, command
 from .disassembly import Instruction
 from .explorer import Explorer
 
-INSTRUCTION_WORDS, UNIT_BYTES = 3, 0o20000
+INSTRUCTION_WORDS = 3
 SHOWN_AT_ONCE, VIRTUAL, PHYSICAL = 16, 0o200000, 0o1000000
 NOT_WHOLE = "(can't be fetched whole)"
 
@@ -78,7 +78,7 @@ def fetches_of(machine: Machine, turns: Sequence[Turn]) -> list[Fetch]:
         for turn, mode, count in zip(turns, modes, counts)
         for at in range(count)
     ]
-    replied, top = machine.places(asked), machine.setup.units * UNIT_BYTES
+    replied, top = machine.places(asked), machine.setup.core_end
     places = [list(itertools.islice(replied, it)) for it in counts]
     return [
         Fetch(of_turn, found[0], words_in_core(found, top) if len(found) > 1 else [])
@@ -191,7 +191,7 @@ class Listed:
     ) -> "Listed":
         """What this number of instructions from the address on may take."""
         listed = range(address, address + 2 * INSTRUCTION_WORDS * count, 2)
-        top = machine.setup.units * UNIT_BYTES
+        top = machine.setup.core_end
         virtual = sorted({it % VIRTUAL for it in listed if mode or it < VIRTUAL})
         asked = [(turn, mode or Mode.KERNEL, it) for it in virtual]
         physical = dict(zip(virtual, machine.places(asked)))

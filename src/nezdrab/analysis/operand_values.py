@@ -8,7 +8,7 @@ from ..core.hardware import IO_PAGE, NAMES_IN_THE_IO_PAGE
 from ..core.replies import SPACES, Devices, DiskFunction, Mode, Registers
 from ..core.values import dataclass, field, replace
 from .levels import pointer
-from .listing import NOT_WHOLE, UNIT_BYTES, VIRTUAL
+from .listing import NOT_WHOLE, VIRTUAL
 from .operands import STACK_LIMIT
 
 STATUS = 0o777776
@@ -80,7 +80,7 @@ class Memory:
         if why:
             raise Fault(f"aborted, {' '.join(why)}")
         place = int(found, 8)
-        top = self.machine.setup.units * UNIT_BYTES
+        top = self.machine.setup.core_end
         if top <= place < IO_PAGE or place >= IO_PAGE and not name_of(place):
             raise Fault("nothing is there: a timeout")
         return place

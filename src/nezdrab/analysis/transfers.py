@@ -7,7 +7,7 @@ from ..core.replies import Devices, DiskFunction
 from ..core.values import dataclass
 from .cells import drive_cell
 
-UNIT_BYTES, ASKED_AT_ONCE = 0o20000, 16
+ASKED_AT_ONCE = 16
 MOVING = (DiskFunction.READ, DiskFunction.WRITE)
 FUNCTIONS = {it.title.replace(" ", "-"): it for it in DiskFunction}
 

@@ -6,15 +6,13 @@ from typing import Iterable, Iterator, NamedTuple, Optional, Sequence
 
 from ..core.engine import SHORT_SENT_AHEAD, Machine
 from ..core.errors import ExploreError
-from ..core.hardware import IO_PAGE
+from ..core.hardware import IO_PAGE, OPERAND_TRAPS
 from ..core.replies import MODES, Devices, Mode, Pages, Turn, turns_of, words_of
 from ..core.values import dataclass, field
-from .transfers import UNIT_BYTES, Transfer
+from .transfers import Transfer
 
 BLOCK = 0o100  # the bytes of a block, which mapping moves as one
-SR0, RESERVED, BUS_ERROR, ABORT = 0o777572, 0o10, 0o4, 0o250
-# The traps that the word of an instruction alone doesn't tell.
-TRAPS = (BUS_ERROR, RESERVED, ABORT)
+SR0, RESERVED = 0o777572, 0o10
 REGS = re.compile(
     rb"R0 (\d+) R1 (\d+) R2 (\d+) R3 (\d+) R4 (\d+) R5 (\d+)"
     rb" KSP (\d+) USP (\d+) PC (\d+) PS (\d+) (\w+)"
@@ -48,7 +46,7 @@ class Seen(NamedTuple):
 
 
 @dataclass
-class Part:
+class SeenPart:
     """Turns that follow one another, with what is asked of them together. `blocks` has the physical
     addresses under the mapping before the first turn, as far as they are known; `words` has the
     words of the code that runs, and of vectors."""
@@ -63,7 +61,7 @@ class Part:
         """The blocks of these words, as mode and number, by their keys."""
         code = {(it.before.ps >> 14, it.before.pc // BLOCK) for it in self.seen}
         vectors = (it.act.vector for it in self.seen)
-        code |= {(KERNEL, it // BLOCK) for it in (*TRAPS, *vectors) if it is not None}
+        code |= {(KERNEL, it // BLOCK) for it in (*OPERAND_TRAPS, *vectors) if it is not None}
         return {mode * BLOCKS_OF_A_SPACE + block: (mode, block) for mode, block in sorted(code)}
 
 
@@ -78,9 +76,9 @@ def rows(machine: Machine, turns: Iterable[int]) -> Iterator[RegisterWords]:
 def trap_of(machine: Machine, turn: int) -> Optional[int]:
     """The vector of the trap that a turn has, if it has one that its instruction's word doesn't
     tell."""
-    lines = [f"first {turn} {turn + 1} trap {it:o}" for it in TRAPS]
-    replies = list(machine.read_all(lines))
-    return next((it for it, reply in zip(TRAPS, replies) if reply.split()[1] != "none"), None)
+    replies = machine.read_all([f"first {turn} {turn + 1} trap {it:o}" for it in OPERAND_TRAPS])
+    found = [it for it, reply in zip(OPERAND_TRAPS, replies) if reply.split()[1] != "none"]
+    return found[0] if found else None
 
 
 @dataclass
@@ -96,7 +94,7 @@ class Mappings:
         return self.known.setdefault(pages[pages.index("KPDR") :] if is_on else "", {})
 
 
-def parts_of(machine: Machine, mappings: Mappings, parts: Sequence[range]) -> list[Part]:
+def parts_of(machine: Machine, mappings: Mappings, parts: Sequence[range]) -> list[SeenPart]:
     """What these parts do, which ascend, asked upwards in two passes."""
     found = rows(machine, (it for part in parts for it in range(part.start, part.stop + 1)))
     trails = [machine.trail_lines(it.start, len(it)) for it in parts]
@@ -113,7 +111,7 @@ def parts_of(machine: Machine, mappings: Mappings, parts: Sequence[range]) -> li
         acts = (act for reply in itertools.islice(replies, len(its)) for act in turns_of(reply))
         seen = [Seen(*it) for it in zip(acts, registers, registers[1:])]
         is_ready = Devices.of(devices).disk_is_ready
-        made.append(Part(part, seen, mappings.of(pages), is_ready))
+        made.append(SeenPart(part, seen, mappings.of(pages), is_ready))
     return made
 
 
@@ -131,7 +129,7 @@ class Space:
     is_remapped: bool = False  # by the turn, up to here
 
     def __post_init__(self) -> None:
-        self.top = self.machine.setup.units * UNIT_BYTES
+        self.top = self.machine.setup.core_end
 
     def begin(self, turn: int, transfer: Optional[Transfer]) -> None:
         """The turn begins with this transfer, if any. What the turn before it wrote is forgotten,
@@ -146,7 +144,7 @@ class Space:
             moved = self.transfer.in_core
             self.known = {at: word for at, word in self.known.items() if at not in moved}
 
-    def prepare(self, parts: Sequence[Part]) -> None:
+    def prepare(self, parts: Sequence[SeenPart]) -> None:
         """Asks together for the blocks of code that these parts run."""
         new = {
             (id(part.blocks), key): (part, key, it)
@@ -163,13 +161,13 @@ class Space:
         for (part, first), reply in zip(firsts, replies):
             part.words.update(zip(range(first, first + BLOCK, 2), words_of(reply)))
 
-    def unknown_code(self, part: Part) -> list[int]:
+    def unknown_code(self, part: SeenPart) -> list[int]:
         """Where the blocks of core begin that the part runs, as far as they aren't known."""
         known = self.known if part.turns[0] == self.turn + 1 else {}
         begins = {begin for it in part.code() if (begin := part.blocks[it]) is not None}
         return sorted(it for it in begins if it < self.top and it not in known)
 
-    def start(self, part: Part) -> None:
+    def start(self, part: SeenPart) -> None:
         """The walk goes on at this part."""
         if part.turns[0] != self.turn + 1:
             self.known, self.transfer = {}, None

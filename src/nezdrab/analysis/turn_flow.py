@@ -4,6 +4,7 @@ from typing import Iterable, Iterator, Optional, Sequence
 
 from ..core.addressing import PC, SP
 from ..core.engine import Machine
+from ..core.hardware import OPERAND_TRAPS
 from ..core.replies import INSTRUCTION
 from .cells import ALL_CODES, C, KSP, MASK, N, NAMES, NOTHING, OF_THE_DISK, REST, USP, Cells
 from .cells import register_cells, word_cells
@@ -12,8 +13,8 @@ from .made_of import EXTENDED, KEPT, MOVED, XOR, MadeRow, made_of, plan_of
 from .operands import POINT, STACK_LIMIT, WHOLE_PS, Access, BelowTheLimit, Flow, How, Operand
 from .operands import Operands, Stopped, pointer_of
 from .transfers import Transfer
-from .turn_cycles import KERNEL, RESERVED, TRAPS, TURNS_AT_ONCE, USER, Mappings, NotFollowed
-from .turn_cycles import Seen, parts_of, trap_of
+from .turn_cycles import KERNEL, RESERVED, TURNS_AT_ONCE, USER, Mappings, NotFollowed, Seen
+from .turn_cycles import parts_of, trap_of
 
 IDLE, TRACE, STACK = "idle", 0o14, 0o4
 VECTORS = {"trace": TRACE, "stack": STACK}
@@ -116,7 +117,7 @@ class Flows(Operands):
 
     def trap_routines(self) -> Iterator[int]:
         """Where traps of operands lead."""
-        for vector in TRAPS:
+        for vector in OPERAND_TRAPS:
             place = self.space.place(KERNEL, vector)
             yield from [] if place is None else [self.space.word(place)]
 

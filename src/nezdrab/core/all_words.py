@@ -5,7 +5,6 @@ from typing import Iterable, Iterator, Optional, Sequence
 
 from .engine import MOST_WORDS, SHORT_SENT_AHEAD, Machine, in_parts
 from .hardware import DRIVE_WORDS
-from .options import UNIT_BYTES
 from .replies import LastWrite, words_of
 
 DRIVES = 8  # of version 2
@@ -28,7 +27,7 @@ def memory_lines(machine: Machine, turn: int, drive: Optional[int] = None) -> li
     """The questions about all words of core before the turn, or of a drive."""
     if drive is not None:
         return drive_lines(machine, turn, drive, range(DRIVE_WORDS))
-    return core_lines(turn, range(0, machine.setup.units * UNIT_BYTES, 2))
+    return core_lines(turn, range(0, machine.setup.core_end, 2))
 
 
 def words_in(replies: Iterable[str]) -> Iterator[int]:

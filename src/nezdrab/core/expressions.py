@@ -8,7 +8,6 @@ from typing import Iterable, Iterator, NamedTuple, Optional
 from . import sessions
 from .engine import Machine
 from .errors import ExploreError
-from .options import UNIT_BYTES
 from .replies import SPACES, Devices, Mode, Registers
 from .symbols import Symbols
 
@@ -100,7 +99,7 @@ class Before:
         place: Optional[int] = address
         if mode is not None:
             place = next(self.machine.places([(self.turn, mode, address)]))
-        if place is None or place >= self.machine.setup.units * UNIT_BYTES:
+        if place is None or place >= self.machine.setup.core_end:
             raise ExploreError(f"{address:o} is no address of core before turn {self.turn}")
         if place % 2:
             raise ExploreError(f"{address:o} is odd")

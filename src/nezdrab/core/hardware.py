@@ -15,6 +15,8 @@ INTERRUPTS = {
     0o100: "clock",
     0o220: "disk",
 }
+# The vectors of the traps that the word of an instruction alone doesn't tell.
+OPERAND_TRAPS = (0o4, 0o10, 0o250)
 # How many turns an operation of a device takes, and the period of the clock, if no `delay` says so.
 DELAYS = {"printer": 1, "reader": 4, "punch": 4, "disk": 10, "clock": 0}
 

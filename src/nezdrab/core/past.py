@@ -2,6 +2,7 @@
 from typing import NamedTuple, Sequence
 
 from .hardware import DELAYS
+from .options import UNIT_BYTES
 from .replies import hash_of
 from .values import dataclass
 
@@ -51,6 +52,11 @@ class Setup:
     delays: dict[str, int]
 
     __hash__ = hash_of
+
+    @property
+    def core_end(self) -> int:
+        """The first address behind core."""
+        return self.units * UNIT_BYTES
 
     @classmethod
     def of(cls, reply: str) -> "Setup":

@@ -4,7 +4,6 @@ from typing import Optional
 from .engine import Machine
 from .errors import ExploreError
 from .hardware import IO_PAGE, IO_PAGE_OF_PROGRAMS, NAMES_IN_THE_IO_PAGE
-from .options import UNIT_BYTES
 from .replies import Mode
 from .symbols import Symbols
 
@@ -19,7 +18,7 @@ def is_register(address: int) -> bool:
 def register_of(machine: Machine, number: int) -> int:
     """The place of the register at a number: one of 760000 and above, or one of 160000 and above
     where the machine has no core. Another number is that of a word of core."""
-    has_core = number < machine.setup.units * UNIT_BYTES
+    has_core = number < machine.setup.core_end
     place = number + BEYOND if IO_PAGE_OF_PROGRAMS <= number < 0o200000 and not has_core else number
     if is_register(place) and place not in NAMES_IN_THE_IO_PAGE:
         why = "is odd" if place & ~1 in NAMES_IN_THE_IO_PAGE else "is no register's address"

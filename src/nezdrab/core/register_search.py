@@ -12,7 +12,6 @@ from typing import TypeVar
 from .addressing import PC, SP, addressing_of
 from .engine import MOST_TURNS_OF_A_TRAIL, SHORT_SENT_AHEAD, Machine
 from .hardware import IO_PAGE, IO_PAGE_OF_PROGRAMS, NAMES_IN_THE_IO_PAGE
-from .options import UNIT_BYTES
 from .register_rows import GENERAL, KSP, PLACE, USP
 from .replies import MODES, SPACES, CycleKind, LastWrite, Pages, TurnAccesses, WordRead
 
@@ -143,7 +142,7 @@ class Part:
 
     def __init__(self, machine: Machine, turns: range, places: frozenset[int]):
         self.machine, self.turns, self.places = machine, turns, places
-        self.top = machine.setup.units * UNIT_BYTES
+        self.top = machine.setup.core_end
         self.rows = [row for block in machine.of_each_turn("regs", turns) for row in block]
         self.words: dict[int, Optional[int]] = {}  # by their places
         self.mappings: dict[int, Mapping] = {}  # before turns

@@ -2,7 +2,6 @@
 from typing import Iterable, Iterator, Optional, Sequence
 
 from ..analysis.batches import batches_of
-from ..analysis.call_steps import turns_with
 from ..analysis.explorer import Explorer
 from ..analysis.finder import Finder
 from ..analysis.routines import Labels
@@ -70,8 +69,8 @@ def signals_of(words: Sequence[Word]) -> list[Signal]:
 
 def trapped(machine: Machine, turns: range) -> dict[int, int]:
     """The vector of each trap of these turns."""
-    pairs = ((turn, it) for it in TRAPS for turn in turns_with(machine, turns, f"trap {it:o}"))
-    return dict(pairs)
+    finder = Finder(machine)
+    return {turn: it for it in TRAPS for turn in finder.each(turns, f"trap {it:o}")}
 
 
 def disk_states(machine: Machine, turns: range) -> Iterator[tuple[str, str]]:

@@ -7,7 +7,7 @@ from typing import Iterator
 from ..analysis.assembler import LABEL, LABEL_OR_NAME, Assembled, assembled, is_mnemonic
 from ..analysis.command import Arguments, command
 from ..analysis.explorer import Explorer
-from ..analysis.listing import INSTRUCTION_WORDS, UNIT_BYTES, VIRTUAL, listed_line
+from ..analysis.listing import INSTRUCTION_WORDS, VIRTUAL, listed_line
 from ..core.all_words import core_words, drive_image
 from ..analysis.restart import edit_whole
 from ..core.errors import ExploreError
@@ -77,7 +77,7 @@ def is_instruction(rest: str, symbols: Symbols) -> bool:
 
 
 def check_place(explorer: Explorer, address: int, count: int) -> None:
-    top = explorer.machine.setup.units * UNIT_BYTES
+    top = explorer.machine.setup.core_end
     if address % 2:
         raise ExploreError(f"the address {address:o} is odd")
     if address + 2 * count > top:

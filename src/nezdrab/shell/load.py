@@ -11,7 +11,7 @@ from ..core.engine import Machine
 from ..core.errors import ExploreError
 from ..core.in_words import counted
 from ..core.kinds import TEXT, begins_as_tape, check_known, content, foreign_of, is_text
-from ..core.options import FILES, RK05_BYTES, UNIT_BYTES, Options
+from ..core.options import FILES, RK05_BYTES, Options
 from ..core.replies import Mode
 from ..core.symbol_files import Symbol
 from ..core.values import dataclass, field
@@ -94,7 +94,7 @@ def loaded(path: Path, base: Optional[int], is_words: bool) -> Loaded:
 
 
 def check_place(machine: Machine, places: Iterable[int]) -> None:
-    top, last = machine.setup.units * UNIT_BYTES, max(places, default=0)
+    top, last = machine.setup.core_end, max(places, default=0)
     if last >= top:
         drive = "; an image of a drive is attached: --disk FILE" if last >= RK05_BYTES - 1 else ""
         raise ExploreError(f"it goes on to {last:o}, and core ends at {top - 1:o}{drive}")

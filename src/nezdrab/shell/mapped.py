@@ -6,7 +6,6 @@ from ..analysis.command import check_turn
 from ..analysis.explorer import Explorer
 from ..core.errors import ExploreError
 from ..core.hardware import IO_PAGE, IO_PAGE_OF_PROGRAMS, NAMES_IN_THE_IO_PAGE
-from ..core.options import UNIT_BYTES
 from ..core.replies import Mode
 from ..core.symbols import ADDRESS
 
@@ -69,7 +68,7 @@ def beside_register(explorer: Explorer, text: str) -> str:
         return ""
     machine, turn = explorer.machine, explorer.turn
     is_near = IO_PAGE_OF_PROGRAMS <= address <= LARGEST
-    if not is_near or address >= machine.setup.units * UNIT_BYTES:
+    if not is_near or address >= machine.setup.core_end:
         return ""
     modes = machine.registers(turn).mode, Mode.KERNEL
     places = machine.places([(turn, it, address & ~1) for it in modes])

@@ -4,10 +4,11 @@ import random
 from typing import Iterator
 
 from nezdrab.analysis.cells import is_core
-from nezdrab.analysis.turn_cycles import TRAPS, trap_of
+from nezdrab.analysis.turn_cycles import trap_of
 from nezdrab.analysis.turn_flow import Flows
 from nezdrab.core.engine import MOST_WORDS, Machine, Start
 from nezdrab.core.errors import ExploreError
+from nezdrab.core.hardware import OPERAND_TRAPS
 from nezdrab.core.replies import INSTRUCTION
 
 from .common import BUILT
@@ -145,13 +146,13 @@ class Writes(OfSystems):
             try:
                 for flow in Flows(machine, range(0, TURNS)):
                     if flow.act.act == INSTRUCTION:
-                        seen = flow.vector if flow.vector in TRAPS else None
+                        seen = flow.vector if flow.vector in OPERAND_TRAPS else None
                         self.assertEqual(seen, trap_of(machine, flow.turn), flow.turn)
                         found.add(seen)
                         looked_at += 1
             except ExploreError as error:
                 self.assertIn("isn't followed", str(error))
-        self.assertEqual(found, {None, *TRAPS})
+        self.assertEqual(found, {None, *OPERAND_TRAPS})
         self.assertGreater(looked_at, 1000)
 
     def test_turns_one_by_one(self) -> None:
