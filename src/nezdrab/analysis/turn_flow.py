@@ -113,7 +113,9 @@ class Flows(Operands):
         is_low = seen.after.words[KSP] <= BOTTOM
         if not is_low and not self.unknown & (1 << KSP | 1 << USP):
             return True
-        return not (is_low and seen.after.is_halted) and seen.after.pc not in self.trap_routines()
+        if self.space.is_remapped or is_low and seen.after.is_halted:
+            return False
+        return seen.after.pc not in self.trap_routines()
 
     def trap_routines(self) -> Iterator[int]:
         """Where traps of operands lead."""
