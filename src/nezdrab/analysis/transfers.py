@@ -141,10 +141,12 @@ class Disk:
         self.turns = range(0)
         self.ready: dict[int, bool] = {}  # before which turns it is
 
-    def prepare(self, turns: range, is_ready: bool = False) -> None:
-        """Asks for what is done in these turns, unless it is a single turn that begins with the
-        disk ready."""
-        found = [] if is_ready and len(turns) == 1 else list(functions_done(self.machine, turns))
+    def prepare(
+        self, turns: range, done: Optional[Sequence[DoneFunction]] = None, is_ready: bool = False
+    ) -> None:
+        """Takes what is done in these turns, or asks for it; and whether the disk is known to be
+        ready before them."""
+        found = list(functions_done(self.machine, turns)) if done is None else done
         self.ends = frozenset(it.turn for it in found)
         moving = [it for it in found if it.function in MOVING]
         self.moved = {it.turn: it for it in moved_by(self.machine, moving)}

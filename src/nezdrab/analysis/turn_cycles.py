@@ -2,14 +2,14 @@
 that is asked of the program for the rules of data stands here."""
 import itertools
 import re
-from typing import Iterable, Iterator, NamedTuple, Optional, Sequence
+from typing import Iterator, NamedTuple, Optional, Sequence
 
 from ..core.engine import SHORT_SENT_AHEAD, Machine
 from ..core.errors import ExploreError
 from ..core.hardware import IO_PAGE, OPERAND_TRAPS
-from ..core.replies import MODES, Devices, Mode, Pages, Turn, turns_of, words_of
+from ..core.replies import MODES, Devices, Mode, Pages, Turn, listed, turns_of, words_of
 from ..core.values import dataclass, field
-from .transfers import Transfer
+from .transfers import DoneFunction, Transfer
 
 BLOCK = 0o100  # the bytes of a block, which mapping moves as one
 SR0, RESERVED = 0o777572, 0o10
@@ -18,7 +18,7 @@ REGS = re.compile(
     rb" KSP (\d+) USP (\d+) PC (\d+) PS (\d+) (\w+)"
 )
 REGS_BYTES, PC_AT, PS_AT = 130, 8, 9
-TURNS_AT_ONCE = 1024
+TURNS_AT_ONCE, FEW_TURNS = 1024, 160
 KERNEL, USER = MODES.index(Mode.KERNEL), MODES.index(Mode.USER)
 MODE_OF_MAPPING = {0o7723: KERNEL, 0o7776: USER}  # by the upper digits of the registers' addresses
 BLOCKS_OF_A_PAGE, BLOCKS_OF_A_SPACE = 0o200, 0o2000
@@ -48,13 +48,15 @@ class Seen(NamedTuple):
 @dataclass
 class SeenPart:
     """Turns that follow one another, with what is asked of them together. `blocks` has the physical
-    addresses under the mapping before the first turn, as far as they are known; `words` has the
-    words of the code that runs, and of vectors."""
+    addresses under the mapping before the first turn, as far as they are known; `done` the
+    functions of the disk, if they are known; `words` the words of the code that runs, and of
+    vectors."""
 
     turns: range
     seen: list[Seen]
     blocks: dict[int, Optional[int]]
     is_disk_ready: bool  # before the first turn
+    done: Optional[list[DoneFunction]]
     words: dict[int, int] = field(default_factory=dict)
 
     def code(self) -> dict[int, tuple[int, int]]:
@@ -65,12 +67,11 @@ class SeenPart:
         return {mode * BLOCKS_OF_A_SPACE + block: (mode, block) for mode, block in sorted(code)}
 
 
-def rows(machine: Machine, turns: Iterable[int]) -> Iterator[RegisterWords]:
-    for block in machine.ascending([b"regs %d" % it for it in turns], REGS_BYTES):
-        for found in REGS.finditer(block):
-            *digits, state = found.groups()
-            words = tuple(int(it, 8) for it in digits)
-            yield RegisterWords(words[:PC_AT], words[PC_AT], words[PS_AT], state == b"halted")
+def rows_in(replies: bytes) -> Iterator[RegisterWords]:
+    for found in REGS.finditer(replies):
+        *digits, state = found.groups()
+        words = tuple([int(it, 8) for it in digits])
+        yield RegisterWords(words[:PC_AT], words[PC_AT], words[PS_AT], state == b"halted")
 
 
 def trap_of(machine: Machine, turn: int) -> Optional[int]:
@@ -95,24 +96,58 @@ class Mappings:
 
 
 def parts_of(machine: Machine, mappings: Mappings, parts: Sequence[range]) -> list[SeenPart]:
-    """What these parts do, which ascend, asked upwards in two passes."""
-    found = rows(machine, (it for part in parts for it in range(part.start, part.stop + 1)))
-    trails = [machine.trail_lines(it.start, len(it)) for it in parts]
-    lines = [
-        line
-        for part, its in zip(parts, trails)
-        for line in (f"pages {part.start}", f"devices {part.start}", *its)
+    """What these parts do, which ascend."""
+    numbers = [it for part in parts for it in range(part.start, part.stop + 1)]
+    lines = [lines_of(machine, it) for it in parts]
+    found, replied = asked_of(machine, numbers, [line for its in lines for line in its])
+    registers, replies = iter(found), iter(replied)
+    return [
+        seen_part(
+            mappings,
+            part,
+            list(itertools.islice(registers, len(part) + 1)),
+            list(itertools.islice(replies, len(its))),
+        )
+        for part, its in zip(parts, lines)
     ]
-    of_rows = [list(itertools.islice(found, len(it) + 1)) for it in parts]
-    replies = machine.read_all(lines, SHORT_SENT_AHEAD)
-    made = []
-    for part, its, registers in zip(parts, trails, of_rows):
-        pages, devices = next(replies), next(replies)
-        acts = (act for reply in itertools.islice(replies, len(its)) for act in turns_of(reply))
-        seen = [Seen(*it) for it in zip(acts, registers, registers[1:])]
-        is_ready = Devices.of(devices).disk_is_ready
-        made.append(SeenPart(part, seen, mappings.of(pages), is_ready))
-    return made
+
+
+def asked_of(
+    machine: Machine, turns: Sequence[int], lines: Sequence[str]
+) -> tuple[list[RegisterWords], list[str]]:
+    """The registers before these turns, and the replies to the lines, asked together if the turns
+    are few."""
+    if len(turns) > FEW_TURNS:
+        blocks = machine.ascending([b"regs %d" % it for it in turns], REGS_BYTES)
+        found = [row for block in blocks for row in rows_in(block)]
+        return found, list(machine.read_all(lines, SHORT_SENT_AHEAD))
+    asked = [*(f"regs {it}" for it in turns), *lines]
+    replies = list(machine.read_all(asked, SHORT_SENT_AHEAD))
+    rows = "\n".join(replies[: len(turns)])
+    return list(rows_in(rows.encode())), replies[len(turns) :]
+
+
+def lines_of(machine: Machine, part: range) -> list[str]:
+    """What is asked of a part besides registers. A single turn begins with no function of the disk
+    done if the disk is ready before it."""
+    done = [f"transfers {part.start} {part.stop}"] if len(part) > 1 else []
+    trails = machine.trail_lines(part.start, len(part))
+    return [f"pages {part.start}", f"devices {part.start}", *trails, *done]
+
+
+def seen_part(
+    mappings: Mappings, turns: range, registers: list[RegisterWords], replies: list[str]
+) -> SeenPart:
+    pages, devices, *trails = replies
+    is_ready, is_all = Devices.of(devices).disk_is_ready, True
+    done: list[str] = []
+    if len(turns) > 1:
+        done, is_all = listed(trails.pop())
+    acts = (act for reply in trails for act in turns_of(reply))
+    seen = [Seen(*it) for it in zip(acts, registers, registers[1:])]
+    is_known = is_all and (is_ready or len(turns) > 1)
+    functions = list(map(DoneFunction.of, done)) if is_known else None
+    return SeenPart(turns, seen, mappings.of(pages), is_ready, functions)
 
 
 @dataclass

@@ -63,7 +63,7 @@ class Flows(Operands):
             parts = parts_of(self.machine, self.mappings, group)
             self.space.prepare(parts)
             for part in parts:
-                self.disk.prepare(part.turns, part.is_disk_ready)
+                self.disk.prepare(part.turns, part.done, part.is_disk_ready)
                 self.space.start(part)
                 for seen in part.seen:
                     transfer = self.disk.completed(seen.act.turn)
@@ -126,8 +126,10 @@ class Flows(Operands):
     def unexplained(self) -> Optional[int]:
         """The first register that isn't what these rules make of it, as far as no value was
         written."""
-        pairs = zip(self.registers, self.after.words)
-        differing = (at for at, (word, after) in enumerate(pairs) if word != after)
+        after = self.after.words
+        if tuple(self.registers) == after:
+            return None
+        differing = (at for at, word in enumerate(self.registers) if word != after[at])
         return next((it for it in differing if not self.unknown >> it & 1), None)
 
     def check(self) -> None:
