@@ -8,11 +8,10 @@ from ..core.replies import Devices, DiskFunction
 from ..core.values import dataclass
 from .command import check_drive
 from .explorer import Explorer
-from .finder import parts_of
+from .finder import growing_parts, parts_of
 from .listing import turns_in_words
 from .transfers import functions_done
 
-DEVICES_BYTES = 180
 FIRST_STEPS_BACK, MOST_STEPS_BACK = 16, 65_536
 
 
@@ -114,16 +113,15 @@ def begin_of(machine: Machine, turn: int) -> Optional[int]:
 def last_change(word: DiskWord, turn: int) -> Optional[int]:
     """The last change before the turn, if there is one. Back from there a change is searched for in
     parts that double, and then a later one in halves of what is left."""
-    found, part, size = None, range(turn, turn), 1
-    while found is None and part.start > 0:
-        part, size = range(max(0, part.start - size), part.start), 2 * size
-        found = next(word.changes(part), None)
-    end = part.stop
-    while found is not None and end - found > 1:
-        middle = (found + end) // 2
-        later = next(word.changes(range(middle, end)), None)
-        found, end = (found, middle) if later is None else (later, end)
-    return found
+    for part in growing_parts(range(0, turn), is_backwards=True):
+        found, end = next(word.changes(part), None), part.stop
+        while found is not None and end - found > 1:
+            middle = (found + end) // 2
+            later = next(word.changes(range(middle, end)), None)
+            found, end = (found, middle) if later is None else (later, end)
+        if found is not None:
+            return found
+    return None
 
 
 def change_lines(explorer: Explorer, word: DiskWord, turn: int) -> Iterator[str]:
