@@ -162,7 +162,8 @@ def seen(explorer: Explorer, turns: Sequence[Turn]) -> Iterator[SeenTurn]:
 
 def turns_in_words(explorer: Explorer, numbers: Sequence[int]) -> list[str]:
     """Turns, which ascend, each in one line, such as `kernel 001040 ADD #7,@#2000`."""
-    replies = explorer.machine.ask_all([f"trail {it + 1} 1" for it in numbers])
+    lines = [f"trail {it + 1} 1" for it in numbers]
+    replies = explorer.machine.ask_all(lines, SHORT_SENT_AHEAD)
     turns = [turns_of(reply)[0] for reply in replies]
     return [it.brief() for it in seen(explorer, turns)]
 

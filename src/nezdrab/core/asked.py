@@ -20,8 +20,8 @@ def turns_of_question(line: str) -> Optional[tuple[int, int]]:
     """The turns that the machine must be at before and after its reply, or None for another line.
     A trail begins at the first turn that it lists. Where a search ends its reply tells; `counts`
     runs to the end of its turns, and so does `latest` at first."""
-    words = sessions.words_of(line) if sessions.first_word(line) in NAMES else []
-    if len(words) < 2 or not is_decimal(words[1]):
+    words = sessions.words_of(line)
+    if len(words) < 2 or words[0] not in NAMES or not is_decimal(words[1]):
         return None
     turn = int(words[1][:MOST_DIGITS])
     if len(words) > 2 and is_decimal(words[2]):

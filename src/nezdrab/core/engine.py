@@ -249,7 +249,7 @@ class Machine:
 
     def _together(self, lines: Sequence[str]) -> Iterator[str]:
         """The replies to lines that are sent together."""
-        if any(map(is_edit, lines)):
+        if self._undone and any(map(is_edit, lines)):
             self._undone.clear()
         with self._started_again():
             replies = self.limited().replies(lines)
