@@ -3,15 +3,13 @@ from typing import Iterator, Sequence
 
 from ..core.errors import ExploreError
 from ..core.hardware import NAMES_IN_THE_IO_PAGE
-from ..core.in_words import counted, span
 from ..core.register_changes import WRITTEN_ALONE, RegisterChange, register_changes, shown_at
 from .accesses import cycle_line, lines_of
 from .crew import stopped_by
 from .explorer import Explorer
 from .finder import with_bar
 from .listing import turns_in_words
-
-MOST_SHOWN, SHOWN_AT_ONCE = 256, 16
+from .reads import MOST_SHOWN, SHOWN_AT_ONCE, Looked
 
 
 def rows(explorer: Explorer, found: Sequence[RegisterChange]) -> Iterator[str]:
@@ -28,32 +26,21 @@ def rows(explorer: Explorer, found: Sequence[RegisterChange]) -> Iterator[str]:
 
 def register_lines(explorer: Explorer, turns: range, place: int) -> Iterator[str]:
     """The changes of a register in these turns, and how many there are."""
-    name, found, end = NAMES_IN_THE_IO_PAGE[place], list[RegisterChange](), turns.start
+    name, looked = NAMES_IN_THE_IO_PAGE[place], Looked[RegisterChange](turns)
     if name not in WRITTEN_ALONE:
         shown_at(explorer.machine, name)  # an error if nothing shows it
-
-    def look() -> Iterator[None]:
-        nonlocal end
-        for changes, end in with_bar(register_changes(explorer.machine, turns, place), turns):
-            found.extend(changes)
-            yield
-            if len(found) > MOST_SHOWN:
-                return
-
-    stopped = stopped_by(look())
-    shown = found[:MOST_SHOWN]
+    changes = with_bar(register_changes(explorer.machine, turns, place), turns)
+    looked.stopped = stopped_by(looked.look(changes))
+    shown, more = looked.found[:MOST_SHOWN], looked.found[MOST_SHOWN:]
     what = "was written" if name in WRITTEN_ALONE else "a read gives"
     yield from [f"{'turn':>10}  before  after   {name}: what {what}; in the turn"] if shown else []
     for at in range(0, len(shown), SHOWN_AT_ONCE):
         yield from rows(explorer, shown[at : at + SHOWN_AT_ONCE])
-    count = counted(len(shown), "change")
-    if len(found) > MOST_SHOWN:
-        on = found[MOST_SHOWN].turn
-        yield f"cut after {count}; on: changes {name} from {on} to {turns[-1]}"
-    elif stopped:
-        yield f"{count} before turn {end}; the turns from there on: {stopped}"
+    if more:
+        on = f"changes {name} from {more[0].turn} to {turns[-1]}"
+        yield f"cut after {MOST_SHOWN} changes; on: {on}"
     else:
-        yield f"{count} in {span(turns)}"
+        yield looked.how_many("change")
 
 
 def check_alone(count: str) -> None:

@@ -1,5 +1,5 @@
 """Who read a word of core, or read or wrote a register: `reads`."""
-from typing import Iterable, Iterator, Sequence, Union
+from typing import Generic, Iterable, Iterator, Sequence, TypeVar, Union
 
 from ..core.in_words import counted, span
 from ..core.places import is_register
@@ -14,17 +14,18 @@ MOST_SHOWN, SHOWN_AT_ONCE = 256, 16
 
 # What is listed: turns with who read or wrote, and the word.
 Listed = Union[WordRead, LastWrite]
+Item = TypeVar("Item")
 
 
-class Looked:
-    """The reads or the writes in turns that are looked at: all, or those that are shown and one."""
+class Looked(Generic[Item]):
+    """What is found in turns that are looked at: all, or what is shown and one more."""
 
     def __init__(self, turns: range):
-        self.turns, self.found = turns, list[Listed]()
+        self.turns, self.found = turns, list[Item]()
         self.end = turns.start  # the turn before which they were looked at
         self.stopped = ""
 
-    def look(self, parts: Iterable[tuple[Sequence[Listed], int]]) -> Iterator[None]:
+    def look(self, parts: Iterable[tuple[Sequence[Item], int]]) -> Iterator[None]:
         for found, end in parts:
             self.found += found
             self.end = end
@@ -32,11 +33,7 @@ class Looked:
             if len(self.found) > MOST_SHOWN:
                 return
 
-    def last_line(self, what: str, address: int) -> str:
-        """How many there are, or how the search goes on."""
-        if len(self.found) > MOST_SHOWN:
-            on = f"{what}s {address:o} from {self.found[MOST_SHOWN].turn} to {self.turns[-1]}"
-            return f"{MOST_SHOWN} {what}s or more; on: {on}"
+    def how_many(self, what: str) -> str:
         count = counted(len(self.found), what)
         if self.stopped:
             where = f"before turn {self.end}"
@@ -52,11 +49,18 @@ def rows(explorer: Explorer, found: Sequence[Listed]) -> Iterator[str]:
         yield f"turn {it.turn}: {agent} {it.word:06o}, by {by[it.turn, agent]}"
 
 
-def looked_lines(explorer: Explorer, looked: Looked, what: str, address: int) -> Iterator[str]:
-    shown = looked.found[:MOST_SHOWN]
+def looked_lines(
+    explorer: Explorer, looked: Looked[Listed], what: str, address: int
+) -> Iterator[str]:
+    """A line for each, how many there are, and how the search goes on."""
+    shown, more = looked.found[:MOST_SHOWN], looked.found[MOST_SHOWN:]
     for at in range(0, len(shown), SHOWN_AT_ONCE):
         yield from rows(explorer, shown[at : at + SHOWN_AT_ONCE])
-    yield looked.last_line(what, address)
+    if more:
+        on = f"{what}s {address:o} from {more[0].turn} to {looked.turns[-1]}"
+        yield f"{MOST_SHOWN} {what}s or more; on: {on}"
+    else:
+        yield looked.how_many(what)
 
 
 @command(
@@ -80,13 +84,13 @@ def reads_command(explorer: Explorer, arguments: Arguments) -> Iterator[str]:
     turns, address = searched_range(explorer, arguments), arguments.octal("address")
     if not is_register(address):
         explorer.machine.check_taken(f"reads 0 0 {address:o}")
-    looked = Looked(turns)
+    looked = Looked[Listed](turns)
     looked.stopped = stopped_by(looked.look(explorer.finder.reads(turns, address)))
     yield from looked_lines(explorer, looked, "read", address)
 
 
 def register_writes(explorer: Explorer, turns: range, place: int) -> Iterator[str]:
     """The writes of a register."""
-    looked = Looked(turns)
+    looked = Looked[Listed](turns)
     looked.stopped = stopped_by(looked.look(explorer.finder.writes_of(turns, place)))
     yield from looked_lines(explorer, looked, "write", place)
