@@ -82,7 +82,9 @@ class Labels:
         more = self.of(ADDRESS_OF_A_TRANSFER) if self.places else 0
         bits = self.bits
         found = [
-            MovedCell(cell, bits.get(cell, 0), more | (0 if source is None else bits.get(source, 0)))
+            MovedCell(
+                cell, bits.get(cell, 0), more | (0 if source is None else bits.get(source, 0))
+            )
             for cell, source in moved.pairs()
         ]
         for it in found:

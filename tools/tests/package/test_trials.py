@@ -106,7 +106,8 @@ class Matters(Case):
         machine = self.lost_update()
         before, found = machine.events(), 0
         for processes in (1, 2):
-            rows = list(machine.matters(questions.dsk(40, 0), within=self.MOST, processes=processes))
+            question = questions.dsk(40, 0)
+            rows = list(machine.matters(question, within=self.MOST, processes=processes))
             self.assertEqual({it.event for it in rows}, set(before))
             found = 0
             for it in rows:
