@@ -100,7 +100,7 @@ class BuildWithPrograms(build_py):
         super().run()
         folder = Path(self.build_lib) / "nezdrab" / "programs"
         files = native_files() if NATIVE else files_for_node()
-        files.update({PAGE: ROOT / "release" / PAGE, "NOTICES": ROOT / "NOTICES"})
+        files.update({PAGE: ROOT / "release" / PAGE, "NOTICES": ROOT / "release" / "NOTICES"})
         for name, path in files.items():
             (folder / name).parent.mkdir(parents=True, exist_ok=True)
             shutil.copy(path, folder / name)

@@ -1,4 +1,5 @@
-// Made of tools/hardware.py by tools/web --tables: change that file, and make this one again.
+// Made of src/nezdrab/core/hardware.py by tools/web --tables: change that file, and make this one
+// again.
 
 // A drive: its cylinders, the surfaces of each, the sectors on each of these, and the words of one.
 export const CYLINDERS = 203;

@@ -1,4 +1,4 @@
-# Made by tools/make-manual: completes the options and files of nezdrab-dap.
+# Made by tools/make manual: completes the options and files of nezdrab-dap.
 _nezdrab_dap() {
     local options='-h
 --help

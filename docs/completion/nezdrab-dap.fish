@@ -1,4 +1,4 @@
-# Made by tools/make-manual: completes the options and files of nezdrab-dap.
+# Made by tools/make manual: completes the options and files of nezdrab-dap.
 complete -c nezdrab-dap -f
 complete -c nezdrab-dap -s h -l help -d 'show this help message and exit'
 complete -c nezdrab-dap -l version -d 'shows the newest release, and ends'

@@ -1,5 +1,5 @@
 #compdef nezdrab-dap
-# Made by tools/make-manual: completes the options and files of nezdrab-dap.
+# Made by tools/make manual: completes the options and files of nezdrab-dap.
 _arguments \
   '(-h --help)'{-h,--help}'[show this help message and exit]' \
   '--version[shows the newest release, and ends]' \

@@ -1,4 +1,4 @@
-# Made by tools/make-manual: completes the options and files of nezdrab-disassemble.
+# Made by tools/make manual: completes the options and files of nezdrab-disassemble.
 _nezdrab_disassemble() {
     local options='-h
 --help

@@ -1,5 +1,5 @@
 #compdef nezdrab-disassemble
-# Made by tools/make-manual: completes the options and files of nezdrab-disassemble.
+# Made by tools/make manual: completes the options and files of nezdrab-disassemble.
 _arguments \
   '(-h --help)'{-h,--help}'[Print help]' \
   '(-V --version)'{-V,--version}'[Print version]'

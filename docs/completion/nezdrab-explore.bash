@@ -1,4 +1,4 @@
-# Made by tools/make-manual: completes the options and files of nezdrab-explore.
+# Made by tools/make manual: completes the options and files of nezdrab-explore.
 _nezdrab_explore() {
     local options='-h
 --help

@@ -1,4 +1,4 @@
-# Made by tools/make-manual: completes the options and files of nezdrab-explore.
+# Made by tools/make manual: completes the options and files of nezdrab-explore.
 complete -c nezdrab-explore -f
 complete -c nezdrab-explore -s h -l help -d 'show this help message and exit'
 complete -c nezdrab-explore -l core -r -F -d 'Words of core from address 0 on [default: zeros]'

@@ -1,5 +1,5 @@
 #compdef nezdrab-explore
-# Made by tools/make-manual: completes the options and files of nezdrab-explore.
+# Made by tools/make manual: completes the options and files of nezdrab-explore.
 _arguments \
   '(-h --help)'{-h,--help}'[show this help message and exit]' \
   '--core=[Words of core from address 0 on \[default\: zeros\]]:FILE:_files' \

@@ -1,4 +1,4 @@
-# Made by tools/make-manual: completes the options and files of nezdrab-search.
+# Made by tools/make manual: completes the options and files of nezdrab-search.
 _nezdrab_search() {
     local options='--core
 --disk

@@ -1,4 +1,4 @@
-# Made by tools/make-manual: completes the options and files of nezdrab-search.
+# Made by tools/make manual: completes the options and files of nezdrab-search.
 complete -c nezdrab-search -f
 complete -c nezdrab-search -l core -r -F -d 'Words of core from address 0 on [default: zeros]'
 complete -c nezdrab-search -l disk -r -F -d 'Words of the drive from word 0 on [default: zeros]'

@@ -1,5 +1,5 @@
 #compdef nezdrab-search
-# Made by tools/make-manual: completes the options and files of nezdrab-search.
+# Made by tools/make manual: completes the options and files of nezdrab-search.
 _arguments \
   '--core=[Words of core from address 0 on \[default\: zeros\]]:FILE:_files' \
   '--disk=[Words of the drive from word 0 on \[default\: zeros\]]:FILE:_files' \

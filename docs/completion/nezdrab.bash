@@ -1,4 +1,4 @@
-# Made by tools/make-manual: completes the options and files of nezdrab.
+# Made by tools/make manual: completes the options and files of nezdrab.
 _nezdrab() {
     local options='--core
 --disk

@@ -1,4 +1,4 @@
-# Made by tools/make-manual: completes the options and files of nezdrab.
+# Made by tools/make manual: completes the options and files of nezdrab.
 complete -c nezdrab -f
 complete -c nezdrab -l core -r -F -d 'Words of core from address 0 on [default: zeros]'
 complete -c nezdrab -l disk -r -F -d 'Words of the drive from word 0 on [default: zeros]'

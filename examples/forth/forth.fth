@@ -1,4 +1,4 @@
-The blocks of the disk that have text. A block is 16 lines of 64 characters; tools/make-forth puts
+The blocks of the disk that have text. A block is 16 lines of 64 characters; tools/make forth puts
 each after a line `block N` on the disk as block N. The kernel loads block 8 when it has been booted.
 
 block 8

@@ -8,7 +8,7 @@ from html.parser import HTMLParser
 from pathlib import Path
 from typing import NamedTuple, Optional
 
-from checks.docs import ROOT, Document, anchors_of
+from tests.checks.docs import ROOT, Document, anchors_of
 
 MAKER = "pandoc"
 COMMAND = [MAKER, "--from=gfm", "--to=html5", "--no-highlight", "--wrap=preserve"]

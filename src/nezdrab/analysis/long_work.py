@@ -9,12 +9,12 @@ from typing import Iterable, Iterator, Optional, Protocol, Sequence
 
 from ..core.engine import Machine
 from ..core.errors import ExploreError
-from ..core.files import OUTPUT, is_locked_here, write_whole
 from ..core.in_words import counted
 from ..core.interrupts import INTERRUPTS, typed_line
 from ..core.language import MOST_DIGITS, is_decimal
 from ..core.programs import own_command
 from ..core.sessions import first_word
+from ..core.written_files import OUTPUT, is_locked_here, write_whole
 from .crew import AtWork, processors
 from .explorer import Explorer
 from .quotes import WORD, file_of, files_of, quote_fault

@@ -7,7 +7,6 @@ from typing import Iterator, Sequence
 
 from ..core.engine import LAST_TURN, Machine, in_parts, is_refused
 from ..core.errors import ExploreError
-from ..core.files import write_whole
 from ..core.hardware import DELAYS
 from ..core.in_words import counted, some_are, span
 from ..core.options import option_lines, options_of_words
@@ -15,6 +14,7 @@ from ..core.past import MOST_EVENTS, Event
 from ..core.replies import Devices
 from ..core.sessions import words_of
 from ..core.visible import visible_bytes
+from ..core.written_files import write_whole
 from .command import END_OF_RUN, Arguments, command, turns_between
 from .explorer import Explorer
 

@@ -9,11 +9,11 @@ from pathlib import Path
 from typing import Iterator, Optional, Sequence
 
 from .errors import ExploreError
-from .files import is_locked_here
 from .in_words import counted
 from .language import is_edit
 from .options import LONGEST_PART, MARK, Options, option_text, options_of_words
 from .values import dataclass, field
+from .written_files import is_locked_here
 
 ENDING = ".journal"
 MOST_KEPT = 30

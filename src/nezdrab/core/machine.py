@@ -19,7 +19,6 @@ from .arguments import Key, Option, StrPath, asks, event_text, options_in_words
 from .engine import MOST_TURNS_OF_A_TRAIL, SHORT_SENT_AHEAD, Machine as Engine, Refused, Start
 from .engine import is_refused
 from .errors import ExploreError
-from .files import Output
 from .found import Found, Transfer, going_on
 from .in_words import counted
 from .language import explanation, is_edit
@@ -38,6 +37,7 @@ from .symbols import ADDRESS, OCTAL, Symbols
 from .trials import Trials
 from .walks import Walks
 from .words import Core, Drive
+from .written_files import Output
 
 Answer = TypeVar("Answer")
 

@@ -27,7 +27,7 @@ def release() -> str:
 
         year, *rest = metadata.version("nezdrab").split(".")
         return "-".join([year, *(it.zfill(2) for it in rest)])
-    path = root / "VERSION"
+    path = root / "release" / "VERSION"
     try:
         found = path.read_text(encoding="ascii").strip()
     except (OSError, ValueError) as error:

@@ -11,12 +11,12 @@ from ..analysis.listing import VIRTUAL
 from ..analysis.routines import in_one_word
 from ..core.engine import Machine
 from ..core.errors import ExploreError
-from ..core.files import OUTPUT, write_whole
 from ..core.in_words import counted, span
 from ..core.kinds import content
 from ..core.replies import Mode
 from ..core.symbol_files import SOURCE
 from ..core.values import dataclass, field
+from ..core.written_files import OUTPUT, write_whole
 
 NEVER, NO_CODE = "#####", "-"
 NAME = re.compile(r"[A-Za-z0-9.$_]+")

@@ -12,11 +12,11 @@ from ..analysis.quotes import WORD, file_of
 from ..analysis.long_work import ask_to_begin
 from ..core.engine import LAST_TURN
 from ..core.errors import ExploreError
-from ..core.files import OUTPUT, write_whole
 from ..core.in_words import counted, span
 from ..core.language import MOST_DIGITS
 from ..core.replies import Mode
 from ..core.values import dataclass
+from ..core.written_files import OUTPUT, write_whole
 from .callgrind import Callgrind, costs_of, folded_lines, remarks, stacks_of
 from .covered import Listing, counted_lines, ran_of, tracefile
 from .vcd import Dump, Word

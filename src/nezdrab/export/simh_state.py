@@ -7,8 +7,8 @@ from ..analysis.command import Arguments, command
 from ..analysis.explorer import Explorer
 from ..core.all_words import core_words, drive_image
 from ..core.engine import Machine
-from ..core.files import OUTPUT, write_whole
 from ..core.replies import Devices, Mode, Pages, Registers
+from ..core.written_files import OUTPUT, write_whole
 from .exports import FORM, export_turns
 
 MODEL_NAMES = {Mode.KERNEL: "KI", Mode.USER: "UI"}

@@ -12,10 +12,10 @@ from ..core import sessions
 from ..core.asked import turns_of_question
 from ..core.engine import LAST_TURN
 from ..core.errors import ExploreError
-from ..core.files import OUTPUT, write_whole
 from ..core.options import FILES, Options
 from ..core.replies import Mode
 from ..core.symbol_files import Symbol
+from ..core.written_files import OUTPUT, write_whole
 from .page_file import OLDER, PageSession, is_older, page_with
 
 # Files of symbols, by the names from which the page tells the mode.

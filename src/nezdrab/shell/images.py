@@ -11,10 +11,10 @@ from ..analysis.listing import INSTRUCTION_WORDS, VIRTUAL, listed_line
 from ..core.all_words import core_words, drive_image
 from ..analysis.restart import edit_whole
 from ..core.errors import ExploreError
-from ..core.files import OUTPUT
 from ..core.interrupts import INTERRUPTS
 from ..core.sessions import words_of
 from ..core.symbols import ADDRESS, Symbols
+from ..core.written_files import OUTPUT
 
 NO_FILE = r"(?!.*\sat\s+\S+$)"  # before an instruction: a FILE may lack its quotes
 

@@ -12,8 +12,8 @@ from ..analysis.explorer import Explorer
 from ..analysis.search import word_of
 from ..core.errors import ExploreError
 from ..core.expressions import ALL_REGISTERS, Before
-from ..core.files import OUTPUT
 from ..core.in_words import counted, span
+from ..core.written_files import OUTPUT
 from .output import LINES, Log
 
 MOST_SHOWN, SHOWN_AT_ONCE = 4_096, 64

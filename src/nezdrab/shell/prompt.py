@@ -13,12 +13,12 @@ from ..analysis.quotes import RULE
 from ..core import sessions
 from ..core.engine import is_refused
 from ..core.errors import ExploreError, LineRefused
-from ..core.files import OUTPUT
 from ..core.in_words import counted
 from ..core.interrupts import INTERRUPTS, typed_line
 from ..core.journal import state_folder
 from ..core.language import FADING, FORMS, LISTS, SEARCHES, SUMMARIES, explanation, form_of
 from ..core.language import forms_of_searches, is_decimal, is_edit
+from ..core.written_files import OUTPUT
 from .commands import COMMANDS, ENDS
 from .completion import HELP, completions
 from .display import definition_line, displays_after_move

@@ -4,8 +4,8 @@ import webbrowser
 from pathlib import Path
 
 from ..core.errors import ExploreError
-from ..core.files import OUTPUT, write_whole
 from ..core.options import check_session
+from ..core.written_files import OUTPUT, write_whole
 from ..export.page_file import OLDER, has_session, is_older, page_with
 from ..export.web_session import held, session_for_page
 from .command_line import Parser, add_options, check_options, options_of
