@@ -1,7 +1,8 @@
-"""Adds the programs, the page and NOTICES to the package. On Linux on x86-64 the wheel is one of
-that system, whatever its C library. Elsewhere, or with NEZDRAB_WHEEL=any in the environment, it is
-one of any system, whose programs are the WebAssembly modules, run by node. A 32-bit Python on Linux
-on x86-64 gets a wheel of its own system, with the programs of x86-64."""
+"""Adds the programs, the page and NOTICES to the package, which pyproject.toml alone can't do: on
+each system the programs are others. On Linux on x86-64 the wheel is one of that system, whatever
+its C library. Elsewhere, or with NEZDRAB_WHEEL=any in the environment, it is one of any system,
+whose programs are the WebAssembly modules, run by node. A 32-bit Python on Linux on x86-64 gets a
+wheel of its own system, with the programs of x86-64."""
 import hashlib
 import os
 import platform
@@ -36,6 +37,12 @@ PAGE = "nezdrab.html"
 BY_NODE = (
     *(f"tools/by-node/{it}" for it in (*NAMES, "start", "host.mjs")),
     *("web/host.js", "web/heap.js", "web/package.json"),
+)
+# What a package of the sources has beside the package itself.
+OF_SOURCES = (
+    *("CHANGELOG.md", "LICENSE-MIT", "LICENSE-APACHE", *BY_NODE),
+    *(f"release/{it}" for it in (PAGE, "NOTICES", "SHA256SUMS")),
+    *(f"release/{it}{end}" for it in NAMES for end in ("-linux-x86_64", ".wasm", ".wasm.sources")),
 )
 TAG = "manylinux1_x86_64.musllinux_1_1_x86_64"
 
@@ -95,6 +102,9 @@ class WithPrograms(Distribution):
 
 
 class BuildWithPrograms(build_py):
+    def get_source_files(self) -> "list[str]":
+        return [*super().get_source_files(), *OF_SOURCES]
+
     def run(self) -> None:
         shutil.rmtree(Path(self.build_lib) / "nezdrab", ignore_errors=True)  # of an earlier build
         super().run()

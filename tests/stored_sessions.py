@@ -1,5 +1,5 @@
-"""What the checks share: the lines of the session language, from src/nezdrab/core/sessions.py, and
-the stored sessions of a folder.
+"""What checks and tests share: the lines of the session language, which are those of
+src/nezdrab/core/sessions.py, and the stored sessions of a folder.
 
 NAME.transcript has the lines of a session, each with its reply under it; the reply `ok` of an edit
 is left out. If bytes, status or standard error matter, a session stands in files of its own:
@@ -19,6 +19,9 @@ from nezdrab.core.sessions import EDITS, SEARCHES, first_word, further_lines, ha
 from nezdrab.core.sessions import lines_of, pattern_of, without_end
 
 ROOT = os.path.dirname(os.path.dirname(os.path.abspath(__file__)))
+# Where stored sessions are: of one rule each, of many values of a rule; and all folders.
+RULES, VALUES = "tests/sessions/rules", "tests/sessions/values"
+ALL = (RULES, VALUES, "examples")
 SECONDS = 300
 
 

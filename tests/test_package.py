@@ -5,6 +5,7 @@ setuptools, wheel or venv it is skipped, and named. The last line is 'N passed, 
 import sys
 
 sys.dont_write_bytecode = True
+sys.path[0] = sys.path[0].rpartition("/")[0] + "/tools"
 import python_needed
 
 python_needed.check()

@@ -6,6 +6,7 @@ import argparse
 import sys
 
 sys.dont_write_bytecode = True
+sys.path[0] = sys.path[0].rpartition("/")[0] + "/tools"
 import python_needed
 
 python_needed.check()

@@ -10,6 +10,7 @@ import sys
 from pathlib import Path
 
 sys.dont_write_bytecode = True
+sys.path[0] = sys.path[0].rpartition("/")[0] + "/tools"
 import python_needed
 
 python_needed.check()

@@ -1,8 +1,9 @@
-"""Which Python the tools need, and where their package is: src/nezdrab. They ask before they read any
-other module. Any Python 3 can read this one."""
+"""Which Python the tools and the tests need, and where their packages are: nezdrab in src/, and
+tests. They ask before they read any other module. Any Python 3 can read this one."""
 import sys
 
-SOURCES = __file__.rpartition("/")[0] + "/../src"
+ROOT = __file__.rpartition("/")[0].rpartition("/")[0]
+FOLDERS = ROOT, ROOT + "/src"
 
 
 def lack() -> str:
@@ -18,12 +19,13 @@ def lack() -> str:
 
 
 def check() -> None:
-    """Ends with a sentence if this Python is older, or lacks modules. Otherwise the package can be
-    imported from here on."""
+    """Ends with a sentence if this Python is older, or lacks modules. Otherwise the packages can
+    be imported from here on."""
     if lack():
         sys.exit("This needs Debian's python3, 3.9 or later: %s." % lack())
-    if SOURCES not in sys.path:
-        sys.path.insert(1, SOURCES)
+    for folder in FOLDERS:
+        if folder not in sys.path:
+            sys.path.insert(1, folder)
 
 
 if __name__ == "__main__":

@@ -1,2 +1,2 @@
-"""The checks that the gate runs. Each module here is what the tool in tools/ runs that has its
-name."""
+"""The checks that the gate runs, by `tools/check` and tests/refuse-each; each module has one, or a
+part of one."""

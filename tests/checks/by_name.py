@@ -1,7 +1,7 @@
 """check [NAME ..]: runs the checks of these names, or all, each as the gate runs its part of that
 name. They run the programs that TESTED_PDP11, TESTED_SEARCH and TESTED_DISASSEMBLE name in the
 environment, otherwise those that tools/program finds. check NAME WORD.. gives one check words of
-its own, as `check rules 4.12` or `check sessions tests/sessions/rules/traps`; check NAME --help shows them.
+its own, as `check rules 4.12` or `check sessions FOLDER`; check NAME --help shows them.
 
 {names}
 
@@ -28,7 +28,7 @@ CHECKS = {
     "help": Check("help", [], "--help shows the lines that the tools know"),
     "streams": Check("streams", [], "streams that fail or come in parts, the largest images"),
     "documents": Check("docs", [], "what README and docs/ show, their links and widths"),
-    "python": Check("python", [], "the Python of tools/ and src/ by mypy and ruff; rooms"),
+    "python": Check("python", [], "all Python by mypy and ruff; rooms; names of modules"),
     "names": Check("names", [], "no type or definition has the name of another"),
     "rules": Check("rules", [], "each rule of MACHINE has a definition and a session"),
     "sessions": Check("stored", [], "the stored sessions on pdp11"),
@@ -39,7 +39,7 @@ CHECKS = {
     "undoing": Check("undoing", [], "each edit taken back and made again"),
     "each-turn": Check("jumps", ["--each-turn"], "each turn from a loaded state"),
     "web-sessions": Check("web_programs", [], "the stored sessions on the page's modules"),
-    "web-refusals": Check("web_programs", ["--refusals"], "the same with requests for memory refused"),
+    "web-refusals": Check("web_programs", ["--refusals"], "the same, with memory refused"),
     "by-node": Check("by_node", [], "the programs as node runs them"),
     "portable": Check("portable", [], "the programs for Linux on ARM64"),
 }

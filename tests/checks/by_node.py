@@ -2,7 +2,8 @@
 native program can't run (tools/by-node): sessions by pdp11, searches by search. It compares
 standard output, exit status and standard error byte for byte. It also runs what the check streams
 runs, but of the outputs that take a part of the replies each twentieth one, and disassemble on the
-words that its crate has. The folders are tests/sessions/rules/program and tests/sessions/rules/searches if none is given.
+words that its crate has. The folders are program and searches of tests/sessions/rules if none is
+given.
 
 The last line is 'N passed, M failed', and before it stands how many programs were left out: those
 whose module is older than the sources. The status is 77 if nothing was run: without node too."""
@@ -18,7 +19,7 @@ from webassembly import files
 from . import streams
 
 ROOT = Path(__file__).resolve().parents[2]
-FOLDERS = "tests/sessions/rules/program", "tests/sessions/rules/searches"
+FOLDERS = f"{sessions.RULES}/program", f"{sessions.RULES}/searches"
 SKIPPED, STEP_OF_PARTS = 77, 20
 # What is wrong with each run, or None.
 Found = Iterator[Optional[str]]

@@ -4,8 +4,8 @@ same forms in the same order with the same texts, and of a session's lines a que
 text says 'before turn N'. It also compares what ./pdp11 --help and ./search --help show while there
 is no program. The last line is 'N passed, M failed'.
 
-With --make it makes that file, and the stored help in tests/sessions/rules/, of what the two programs print: after
-a change of a line, before tools/web --tables and tools/make manual."""
+With --make it makes that file, and the stored help in tests/sessions/rules, of what the programs
+print: after a change of a line, before tools/web --tables and tools/make manual."""
 import itertools
 import os
 import re
@@ -25,14 +25,14 @@ ROOT = os.path.join(os.path.dirname(os.path.abspath(__file__)), "..", "..")
 # What ./pdp11 --help and ./search --help need if nothing is built and there is no release file.
 UNBUILT = ["tools/start", "tools/program", "tools/build", "tools/sources-sum", "crates.txt"]
 # The help of pdp11 once more: it wins over a number that can't be read.
-WITH_A_BAD_NUMBER = "tests/sessions/rules/program/help-and-a-bad-number.expected"
+WITH_A_BAD_NUMBER = f"{sessions.RULES}/program/help-and-a-bad-number.expected"
 # By program: where its help is stored, and the heads of its lines, each with the table that it
 # shows.
 OF_SESSIONS = ("Lines of a session", sessions.LANGUAGE)
 OF_SEARCHES = ("Lines of searches", sessions.SEARCHES)
 PROGRAMS = {
-    "pdp11": ("tests/sessions/rules/program/help.expected", [OF_SESSIONS]),
-    "search": ("tests/sessions/rules/searches/help.expected", [OF_SESSIONS, OF_SEARCHES]),
+    "pdp11": (f"{sessions.RULES}/program/help.expected", [OF_SESSIONS]),
+    "search": (f"{sessions.RULES}/searches/help.expected", [OF_SESSIONS, OF_SEARCHES]),
 }
 # A form begins in the third column, and its text two or more spaces behind it. A further line of
 # the text is indented deeper.

@@ -104,7 +104,8 @@ def main() -> int:
     parser = sessions.parser_of(__doc__)
     parser.add_argument("--skipped", metavar="N", type=int)
     asked = sessions.asked(parser, "--each-turn")
-    usual = ["tests/sessions", "examples"] if asked.flags else ["tests/sessions/rules", "tests/sessions/values/kept-states"]
+    some = (sessions.RULES, f"{sessions.VALUES}/kept-states")
+    usual = sessions.ALL if asked.flags else some
     folders = sessions.folders_of(asked.folders, *usual)
     failure_in = failure_of_turns if asked.flags else failure
     program, to_skip = under_test.by_its_name("pdp11"), asked.words["skipped"]

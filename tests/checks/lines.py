@@ -28,15 +28,22 @@ STRIDES = ["32"]
 # With mapping, user mode, eight drives, interrupts, traps, the disk, the clock and the tape.
 SYSTEMS = """
     tests/sessions/rules/memory-management tests/sessions/rules/hostile
-    tests/sessions/values/memory-management/aborts-of-each-reference tests/sessions/values/interrupts/wait-for-the-clock
-    examples/ledger examples/who-wrote-this-word examples/copy-of-a-pack examples/boot-rk0
-    examples/two-tasks examples/tape-to-console examples/text-from-disk examples/what-was-punched
-    tests/sessions/rules/decoded-lines/mapped-code-at-every-turn tests/sessions/rules/eight-drives/copy-by-sectors
-    tests/sessions/rules/traps/each-cause tests/sessions/rules/traps/red-in-a-sequence tests/sessions/rules/events-and-patches/order-within-a-turn
-    tests/sessions/rules/searches/turns-with-traps tests/sessions/rules/searches/latest-turn-at-an-address
-    tests/sessions/rules/searches/virtual-addresses tests/sessions/rules/searches/change-of-a-disk-word
-    tests/sessions/rules/searches/completions-of-the-disk tests/sessions/rules/searches/writes-to-a-word
-    tests/sessions/values/kept-states/edits-of-many-devices tests/sessions/values/kept-states/drives-after-edits-that-fade
+    tests/sessions/values/memory-management/aborts-of-each-reference
+    tests/sessions/values/interrupts/wait-for-the-clock examples/ledger examples/who-wrote-this-word
+    examples/copy-of-a-pack examples/boot-rk0 examples/two-tasks examples/tape-to-console
+    examples/text-from-disk examples/what-was-punched
+    tests/sessions/rules/decoded-lines/mapped-code-at-every-turn
+    tests/sessions/rules/eight-drives/copy-by-sectors tests/sessions/rules/traps/each-cause
+    tests/sessions/rules/traps/red-in-a-sequence
+    tests/sessions/rules/events-and-patches/order-within-a-turn
+    tests/sessions/rules/searches/turns-with-traps
+    tests/sessions/rules/searches/latest-turn-at-an-address
+    tests/sessions/rules/searches/virtual-addresses
+    tests/sessions/rules/searches/change-of-a-disk-word
+    tests/sessions/rules/searches/completions-of-the-disk
+    tests/sessions/rules/searches/writes-to-a-word
+    tests/sessions/values/kept-states/edits-of-many-devices
+    tests/sessions/values/kept-states/drives-after-edits-that-fade
 """.split()
 WITH_SPAN = {sessions.command_of(it) for it in sessions.SEARCHES if it.turns == sessions.SPAN}
 UNITS = 31

@@ -4,7 +4,7 @@ is another one, on the stored sessions of these folders: sessions by pdp11, sear
 compares standard output, exit status and standard error byte for byte. It also runs what
 the check streams runs, but of the outputs that take a part of the replies each twentieth one, and
 disassemble on the words that its crate has. It compiles nothing: tools/portable --check does. The
-folders are tests/sessions/rules/program and tests/sessions/rules/searches if none is given.
+folders are program and searches of tests/sessions/rules if none is given.
 
 The last line is 'N passed, M failed', and before it stands how many files were skipped: those that
 are older than the sources. The status is 77 if wasm2c or qemu isn't here, or no file was run."""

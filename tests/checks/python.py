@@ -1,10 +1,10 @@
-"""python: the Python of tools/ and of the package in src/ by mypy, with its strict settings,
-and by ruff, each as Python 3.9 has the language; and the rooms of the package, whose imports go
-downwards only, and in which no name of a module stands twice. It counts the files in which each
-finds nothing. mypy reads the modules, ruff the tools too. What isn't installed is skipped.
+"""python: the Python of tools/, of tests/ and of the package in src/ by mypy, with its strict
+settings, and by ruff, each as Python 3.9 has the language; the rooms of the package, whose imports
+go downwards only; and that no two modules have one name. It counts the files in which each finds
+nothing. mypy reads the modules, ruff the tools too. What isn't installed is skipped.
 
-The last line is 'N passed, M failed'. The status is 77 if neither is installed, and the rooms are
-right."""
+The last line is 'N passed, M failed'. The status is 77 if neither is installed, and the rooms and
+names are right."""
 import json
 import os
 import re
@@ -17,9 +17,8 @@ from tests import stored_sessions as sessions
 
 from . import rooms
 
-FOLDER = Path(__file__).resolve().parents[1]
-SOURCES = FOLDER.parent / "src"
-PACKAGE = SOURCES / "nezdrab"
+ROOT = Path(__file__).resolve().parents[2]
+FOLDERS = [ROOT / it for it in ("src/nezdrab", "tests", "tools")]
 MYPY = ["mypy", "--strict", "--python-version", "3.9", "--cache-dir", os.devnull]
 # Errors of syntax, names without a use or a meaning, and List for list.
 RUFF = ["ruff", "check", "--isolated", "--no-cache", "--target-version", "py39"]
@@ -33,14 +32,15 @@ class CheckerFailed(Exception):
 
 
 def modules() -> list[str]:
-    package = (os.path.relpath(it, FOLDER) for it in PACKAGE.rglob("*.py"))
-    return sorted([*(str(it.relative_to(FOLDER)) for it in FOLDER.rglob("*.py")), *package])
+    return sorted(str(it.relative_to(ROOT)) for folder in FOLDERS for it in folder.rglob("*.py"))
 
 
 def tools() -> list[str]:
     """The tools in Python whose names don't end in `.py`."""
-    files = (it for it in sorted(FOLDER.iterdir()) if it.is_file() and not it.suffix)
-    return [it.name for it in files if it.read_bytes().split(b"\n")[0].endswith(b"python3")]
+    there = (it for folder in ("tests", "tools") for it in sorted((ROOT / folder).iterdir()))
+    files = [it for it in there if it.is_file() and not it.suffix]
+    found = [it for it in files if it.read_bytes().split(b"\n")[0].endswith(b"python3")]
+    return [str(it.relative_to(ROOT)) for it in found]
 
 
 def wrong_by_mypy(files: list[str]) -> set[str]:
@@ -57,7 +57,7 @@ def wrong_by_ruff(files: list[str]) -> set[str]:
     ran = run([*RUFF, *files])
     wrong = set()
     for it in json.loads(ran.stdout or "[]"):
-        name = os.path.relpath(it["filename"], FOLDER)
+        name = os.path.relpath(it["filename"], ROOT)
         print(f"{name}:{it['location']['row']}: {it['code']} {it['message']}")
         wrong.add(name)
     check_end(ran, wrong)
@@ -67,16 +67,16 @@ def wrong_by_ruff(files: list[str]) -> set[str]:
 def wrong_by_rooms() -> set[str]:
     """Shows the imports that go upwards, and names that stand twice; returns their files."""
     wrong = set()
-    for path, said in (*rooms.upward_imports(), *rooms.names_twice()):
-        name = os.path.relpath(path, FOLDER)
+    for path, said in (*rooms.upward_imports(), *rooms.names_twice(*FOLDERS)):
+        name = os.path.relpath(path, ROOT)
         print(f"{name}:{said}")
         wrong.add(name)
     return wrong
 
 
 def run(command: list[str]) -> "subprocess.CompletedProcess[str]":
-    environment = {**os.environ, "MYPYPATH": f".:{SOURCES}"}
-    return subprocess.run(command, cwd=FOLDER, env=environment, capture_output=True, text=True)
+    environment = {**os.environ, "MYPYPATH": "tools:src"}
+    return subprocess.run(command, cwd=ROOT, env=environment, capture_output=True, text=True)
 
 
 def check_end(ran: "subprocess.CompletedProcess[str]", wrong: set[str]) -> None:
@@ -105,7 +105,7 @@ def main() -> int:
     is_skipped = passed == failed == 0
     wrong = wrong_by_rooms()
     failed += len(wrong)
-    passed += sum(1 for _ in PACKAGE.rglob("*.py")) - len(wrong)
+    passed += len(modules()) - len(wrong)
     print(f"{passed} passed, {failed} failed")
     return SKIPPED if is_skipped and not wrong else int(failed > 0)
 

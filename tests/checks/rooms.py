@@ -41,10 +41,10 @@ def upward_imports(package: Path = PACKAGE) -> Iterator[tuple[Path, str]]:
                 yield path, f"{line}: {own} imports {name}, which is of a room above"
 
 
-def names_twice(package: Path = PACKAGE) -> Iterator[tuple[Path, str]]:
-    """Each module with the name of one before."""
+def names_twice(*folders: Path) -> Iterator[tuple[Path, str]]:
+    """Each module below these folders with the name of one before."""
     found: dict[str, Path] = {}
-    for path in sorted(package.rglob("*.py")):
+    for path in (it for folder in folders for it in sorted(folder.rglob("*.py"))):
         before = found.setdefault(path.stem, path)
         if before != path and path.stem != "__init__":
-            yield path, f"1: {before.relative_to(package)} has this name too"
+            yield path, f"1: {before.parent.name}/{before.name} has this name too"

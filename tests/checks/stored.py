@@ -23,7 +23,7 @@ def as_search(session: sessions.Session) -> sessions.Session:
 def main() -> int:
     asked = sessions.asked(sessions.parser_of(__doc__), "--search", "--searches")
     ending = ".search" if "--searches" in asked.flags else ".session"
-    usual = ["tests/sessions/rules/searches"] if ending == ".search" else ["tests/sessions", "examples"]
+    usual = (f"{sessions.RULES}/searches",) if ending == ".search" else sessions.ALL
     strides = asked.strides or ([] if "--search" in asked.flags else STRIDES)
     program = under_test.by_its_name("search" if asked.flags else "pdp11")
     passed = failed = 0

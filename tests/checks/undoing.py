@@ -55,7 +55,7 @@ def main() -> int:
     folders = sessions.asked_folders(sessions.parser_of(__doc__)).folders
     program = under_test.by_its_name("search")
     passed, failed, skipped = 0, 0, 0
-    for folder in sessions.folders_of(folders, "tests/sessions/rules", "tests/sessions/values/kept-states"):
+    for folder in sessions.folders_of(folders, sessions.RULES, f"{sessions.VALUES}/kept-states"):
         for session in sessions.sessions_of(folder):
             answered = answered_lines(session) if sessions.is_of_both(session) else None
             if answered is None or session.expected.output == b"":

@@ -66,7 +66,7 @@ def main() -> int:
     parser.add_argument("--refusals", action="store_true")
     parser.add_argument("--programs", metavar="MODULES", type=Path, default=files.RELEASE)
     found = sessions.asked_folders(parser)
-    usual = ["tests/sessions/rules/refused-memory"] if found.refusals else ["tests/sessions", "examples"]
+    usual = (f"{sessions.RULES}/refused-memory",) if found.refusals else sessions.ALL
     folders = sessions.folders_of(found.folders, *usual)
     if shutil.which("node") is None:
         print("node isn't installed")

@@ -13,7 +13,8 @@ from .explore_case import BUILT, ROOT
 from .machines import OnMachine
 from .systems import OfSystems
 
-FOLDERS = ("tests/sessions/rules/memory-management", "tests/sessions/rules/hostile", "tests/sessions/rules/traps", "tests/sessions/rules/disk", "examples")
+RULES = (f"{sessions.RULES}/{it}" for it in ("memory-management", "hostile", "traps", "disk"))
+FOLDERS = (*RULES, "examples")
 TURNS, LOOKED_AT = range(0, 60), 0o20000
 EDITS = {it.decode() for it in sessions.EDITS}
 

@@ -36,8 +36,8 @@ class Sources(Case):
     """What make forth makes of sources."""
 
     def make(self, *words: str) -> "subprocess.CompletedProcess[str]":
-        tool = str(ROOT / "tools" / "make forth")
-        return subprocess.run([tool, *words], cwd=self.folder, capture_output=True, text=True)
+        command = [str(ROOT / "tools" / "make"), "forth", *words]
+        return subprocess.run(command, cwd=self.folder, capture_output=True, text=True)
 
     def copied(self) -> Path:
         folder = self.folder / "mine"

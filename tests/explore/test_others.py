@@ -34,8 +34,9 @@ class Saved(Case):
             with self.subTest(stored.name):
                 self.saved_answers_equally(stored)
 
-    def test_each_row_of_the_script(self) -> None:
-        for stored in sessions.sessions_of(str(ROOT / "tests/sessions/rules" / "events-and-patches")):
+    def test_each_rule_of_the_script(self) -> None:
+        folder = ROOT / sessions.RULES / "events-and-patches"
+        for stored in sessions.sessions_of(str(folder)):
             with self.subTest(stored.name):
                 self.saved_answers_equally(stored)
 

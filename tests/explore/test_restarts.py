@@ -262,7 +262,8 @@ class Examples(Media):
     """The media in examples/media."""
 
     def test_they_are_what_the_script_makes(self) -> None:
-        subprocess.run([str(ROOT / "tools" / "make media"), "."], cwd=self.folder, check=True)
+        making = [str(ROOT / "tools" / "make"), "media", "."]
+        subprocess.run(making, cwd=self.folder, check=True)
         made = sorted(it.name for it in self.folder.glob("hello.*"))
         self.assertEqual(made, ["hello.aout", "hello.bytes", "hello.lda", "hello.lst"])
         for name in made:

@@ -24,7 +24,7 @@ class Rooms(Case):
         return [f"{path.stem}:{said}" for path, said in rooms.upward_imports(package)]
 
     def test_imports_go_downwards(self) -> None:
-        self.assertEqual([*rooms.upward_imports(), *rooms.names_twice()], [])
+        self.assertEqual([*rooms.upward_imports(), *rooms.names_twice(rooms.PACKAGE)], [])
         self.assertEqual({*rooms.ROOMS}, self.rooms_there())
 
     def rooms_there(self) -> set[str]:

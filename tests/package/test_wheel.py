@@ -14,8 +14,8 @@ import nezdrab
 from .machine_case import EXAMPLES, ROOT, Case
 
 NAMES = (
-    *("pyproject.toml", "setup.py", "MANIFEST.in", "README.md", "CHANGELOG.md"),
-    *("LICENSE-MIT", "LICENSE-APACHE", "NOTICES"),
+    *("pyproject.toml", "setup.py", "README.md", "CHANGELOG.md"),
+    *("LICENSE-MIT", "LICENSE-APACHE"),
 )
 FOLDERS = ("src", "release", "tools/by-node", "web")
 INSTALL = ("-m", "pip", "install", "--quiet", "--no-index", "--no-deps")

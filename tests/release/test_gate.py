@@ -9,7 +9,7 @@ import time
 import unittest
 from typing import Callable
 
-from tests import processes
+from tests import processes, stored_sessions as sessions
 from tests.checks.by_name import CHECKS
 from tests.quick import QUICK
 
@@ -22,8 +22,8 @@ echo "${0##*/} $*" >>words
 echo a line of it
 echo 3 passed, 0 failed
 """
-COMMANDS = ["release", "check", "make manual", "make definitions"]
-COMMANDS += ["test_explore.py", "test_package.py", "test_web.py"]
+COMMANDS = ["tools/release", "tools/check", "tools/make"]
+COMMANDS += [f"tests/test_{it}.py" for it in ("explore", "package", "web")]
 WAITS = "#!/bin/sh\necho $$ >waits\nsleep 1000\n"
 # The rows of the table of parts in MAINTAINING.md, and in each the names of parts.
 ROWS, NAMES = re.compile(r"\| part \|.*\n\|---.*\n((\|.*\n)+)"), re.compile(r"^\| ([^|]+) \|", re.M)
@@ -33,7 +33,7 @@ class Parts(Tree):
     def setUp(self) -> None:
         super().setUp()
         for name in COMMANDS:
-            self.write(f"tools/{name}", COMMAND, 0o755)
+            self.write(name, COMMAND, 0o755)
 
     def words(self) -> list[str]:
         """What was run, with its words."""
@@ -55,8 +55,9 @@ class Parts(Tree):
         self.assertTrue(ended.stdout.endswith("\n0 passed, 2 failed\n"), self.said)
 
     def test_all_but_the_proofs(self) -> None:
-        for name in "test_release.py", "test_webassembly.py", "refuse-each", "web":
-            self.write(f"tools/{name}", COMMAND, 0o755)
+        for name in "tests/test_release.py", "tests/test_webassembly.py", "tests/refuse-each":
+            self.write(name, COMMAND, 0o755)
+        self.write("tools/web", COMMAND, 0o755)
         ended = self.run_in("bash", ".ci/run", "--without-proofs")
         listed = self.run_in("bash", ".ci/run", "--list").stdout.split()
         begun = re.findall("^== ([^: ]+): ", ended.stdout, re.M)
@@ -85,7 +86,7 @@ class Parts(Tree):
         self.assertEqual(loader.errors, [])
 
     def test_what_fails_in_the_quick_ones_is_shown(self) -> None:
-        self.write("tools/make manual", COMMAND.replace("0 failed", "1 failed"), 0o755)
+        self.write("tests/test_package.py", COMMAND.replace("0 failed", "1 failed"), 0o755)
         ended = self.run_in("bash", ".ci/run", "--quick")
         self.assertEqual(ended.returncode, 1, self.said)
         self.assertEqual(ended.stdout.count("a line of it"), 1)
@@ -143,7 +144,8 @@ class Checks(unittest.TestCase):
                 self.assertTrue(ended.stdout.startswith(f"usage: check {name} "), ended.stdout)
 
     def test_each_finds_its_programs(self) -> None:
-        words = "help", "sessions tests/sessions/rules/program", "sessions-by-search tests/sessions/rules/traps", "searches"
+        folders = f"{sessions.RULES}/program", f"{sessions.RULES}/traps"
+        words = "help", f"sessions {folders[0]}", f"sessions-by-search {folders[1]}", "searches"
         for it in words:
             with self.subTest(it):
                 ended = self.check(*it.split())
@@ -186,5 +188,5 @@ class InTheBackground(unittest.TestCase):
         names += ["explore.test_bad_input", "explore.test_interrupts.Interrupts.test_at_the_start"]
         command = [sys.executable, "-B", "-m", "unittest", *(f"tests.{it}" for it in names)]
         ignored = ["sh", "-c", 'trap "" INT HUP; exec "$@"', "sh", *command]
-        ended = subprocess.run(ignored, cwd=ROOT / "tools", capture_output=True, text=True)
+        ended = subprocess.run(ignored, cwd=ROOT, capture_output=True, text=True)
         self.assertEqual(ended.returncode, 0, ended.stderr)

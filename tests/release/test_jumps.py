@@ -1,5 +1,5 @@
-"""tools/check jumps and each-turn, on a script that stands in the place of the program, and bench/jumps, on a
-program in C."""
+"""tools/check jumps and each-turn, on a script that stands in the place of the program, and
+bench/jumps, on a program in C."""
 import os
 import shutil
 import subprocess
@@ -47,15 +47,15 @@ class EachTurn(unittest.TestCase):
         folder = tempfile.TemporaryDirectory()
         self.addCleanup(folder.cleanup)
         self.folder = Path(folder.name).resolve()
-        (self.folder / "rows").mkdir()
-        (self.folder / "rows" / "three.transcript").write_text(TRANSCRIPT)
+        (self.folder / "stored").mkdir()
+        (self.folder / "stored" / "three.transcript").write_text(TRANSCRIPT)
 
     def last_line(self, wrong: str, name: str) -> str:
         program = self.folder / "pdp11"
         program.write_text(PROGRAM.format(wrong=wrong))
         program.chmod(0o755)
         ran = subprocess.run(
-            [str(ROOT / "tools" / "check"), name, "--skipped", "0", "rows"],
+            [str(ROOT / "tools" / "check"), name, "--skipped", "0", "stored"],
             env={**os.environ, "TESTED_PDP11": str(program)},
             capture_output=True,
             text=True,

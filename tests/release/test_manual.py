@@ -111,7 +111,8 @@ class Pages(unittest.TestCase):
         """The page shows what is stored, and that is what the program shows."""
         program, command = under_test.program("disassemble"), ["disassemble", "--help"]
         ran = subprocess.run(command, executable=program, stdout=subprocess.PIPE, text=True)
-        self.assertEqual(ran.stdout, (ROOT / "tests/sessions/rules/program/disassemble.help").read_text())
+        stored = ROOT / sessions.RULES / "program" / "disassemble.help"
+        self.assertEqual(ran.stdout, stored.read_text())
 
 
 class Made(InAFolder):
@@ -139,7 +140,8 @@ class Made(InAFolder):
     def test_a_file_that_is_older_or_missing_or_strange(self) -> None:
         page = self.folder / "manual" / "nezdrab.1"
         page.write_text(page.read_text().replace("whose past", "whose future"))
-        self.assertIn("manual/nezdrab.1 isn't what tools/make manual makes", self.said(manual_files.check))
+        said = self.said(manual_files.check)
+        self.assertIn("manual/nezdrab.1 isn't what tools/make manual makes", said)
         page.unlink()
         (self.folder / "completion" / "pdp11.bash").touch()
         said = self.said(manual_files.check)

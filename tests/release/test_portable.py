@@ -107,7 +107,7 @@ class OnArm64(Tree):
         ended = self.run_in("tools/portable", "--c", "pdp11")
         self.assertEqual((ended.returncode, ended.stdout), (1, ""))
         self.assertIn(f"portable: {lacks}", ended.stderr)
-        ended = self.run_in(str(ROOT / "tools/check"), "portable", str(ROOT / "tests/sessions/rules"))
+        ended = self.run_in(str(ROOT / "tools/check"), "portable", str(ROOT / "examples"))
         self.assertEqual(ended.returncode, 77)
         self.assertTrue(ended.stdout.startswith(lacks), self.said)
 

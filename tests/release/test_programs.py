@@ -309,7 +309,7 @@ class CheckNode(Tree):
 
     def test_without_node(self) -> None:
         self.path = path_without(self.folder, "rt", "node")
-        ended = self.run_in(str(ROOT / "tools/check"), "by-node", str(ROOT / "tests/sessions/rules"))
+        ended = self.run_in(str(ROOT / "tools/check"), "by-node", str(ROOT / "examples"))
         self.assertEqual((ended.returncode, self.said), (77, "node isn't installed\n"))
 
     def test_no_such_folder(self) -> None:

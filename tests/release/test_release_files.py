@@ -30,8 +30,8 @@ class Checked(Tree):
         return line
 
     def test_all_is_right(self) -> None:
-        self.assertEqual(self.counted("--verify"), "14 passed, 0 failed")
-        self.assertEqual(self.counted("--check"), "16 passed, 0 failed")
+        self.assertEqual(self.counted("--verify"), "16 passed, 0 failed")
+        self.assertEqual(self.counted("--check"), "18 passed, 0 failed")
 
     def test_a_changed_byte_is_seen(self) -> None:
         for name, verified, checked in [
@@ -46,7 +46,7 @@ class Checked(Tree):
         ]:
             with self.subTest(name):
                 self.change_a_byte(name)
-                for how, facts, wrong in ("--verify", 14, verified), ("--check", 16, checked):
+                for how, facts, wrong in ("--verify", 16, verified), ("--check", 18, checked):
                     said = f"{facts - wrong} passed, {wrong} failed"
                     self.assertEqual(self.counted(how), said)
                 self.change_a_byte(name)
@@ -54,28 +54,28 @@ class Checked(Tree):
     def test_another_kit(self) -> None:
         """The same bytes are right by any kit. Other bytes are neither right nor wrong."""
         self.write("../kit/rt", RT.replace(KIT, "another line"), 0o755)
-        self.assertEqual(self.counted("--check"), "16 passed, 0 failed")
+        self.assertEqual(self.counted("--check"), "18 passed, 0 failed")
         self.change_a_byte(BUILT)
-        self.assertEqual(self.counted("--check"), "15 passed, 0 failed")
+        self.assertEqual(self.counted("--check"), "17 passed, 0 failed")
         said = f"pdp11: the release files are by {KIT}, line of musl; other bytes are made by"
         lines = [f"{said} another line, line of musl", "1 skipped"]
         self.assertEqual(self.said.splitlines()[:-1], lines)
         self.change_a_byte(RELEASE)  # a file that its sum isn't of
-        self.assertEqual(self.counted("--check"), "15 passed, 1 failed")
+        self.assertEqual(self.counted("--check"), "17 passed, 1 failed")
         (self.tree / BUILT).unlink()
-        self.assertEqual(self.counted("--check"), "14 passed, 2 failed")
+        self.assertEqual(self.counted("--check"), "16 passed, 2 failed")
 
     def test_another_library(self) -> None:
         self.write("../kit/musl", "another musl\n")
-        self.assertEqual(self.counted("--check"), "16 passed, 0 failed")
+        self.assertEqual(self.counted("--check"), "18 passed, 0 failed")
         self.change_a_byte(BUILT)
-        self.assertEqual(self.counted("--check"), "15 passed, 0 failed")
+        self.assertEqual(self.counted("--check"), "17 passed, 0 failed")
         self.assertIn(f"line of musl; other bytes are made by {KIT}, another musl", self.said)
         (self.folder / "kit" / "musl").unlink()
-        self.assertEqual(self.counted("--check"), "14 passed, 0 failed")
+        self.assertEqual(self.counted("--check"), "16 passed, 0 failed")
         said = "disassemble pdp11: not linked anew: musl is lacking"
         self.assertEqual(self.said.splitlines()[:-1], [said, "2 skipped"])
-        self.assertEqual(self.counted("--verify"), "14 passed, 0 failed")
+        self.assertEqual(self.counted("--verify"), "16 passed, 0 failed")
 
     @BY_GIT
     def test_files_by_another_kit(self) -> None:
@@ -88,15 +88,15 @@ class Checked(Tree):
             self.assertIn("another line", wrong or "")
             self.write("README.md", "Made with `another line`.\n")
             self.assertIsNone(docs.failure_of_kit(docs.read_document(docs.README)))
-        self.assertEqual(self.counted("--check"), "16 passed, 0 failed")
+        self.assertEqual(self.counted("--check"), "18 passed, 0 failed")
         self.commit()
         self.assertIsNotNone(self.archive("packed"), self.said)
         self.write("../kit/rt", RT, 0o755)
-        self.assertEqual(self.counted("--check"), "16 passed, 0 failed")
+        self.assertEqual(self.counted("--check"), "18 passed, 0 failed")
 
     def test_a_file_of_no_program(self) -> None:
         self.write("release/more", "")
-        self.assertEqual(self.counted("--verify"), "14 passed, 1 failed")
+        self.assertEqual(self.counted("--verify"), "16 passed, 1 failed")
 
     def test_a_file_that_is_missing(self) -> None:
         (self.tree / RELEASE).unlink()
@@ -108,7 +108,7 @@ class Checked(Tree):
         made = self.run_in("tools/release", "--make", kit=True)
         self.assertEqual(made.returncode, 1, self.said)
         self.assertIn("older than a source", made.stderr)
-        self.assertEqual(self.counted("--check"), "16 passed, 0 failed")
+        self.assertEqual(self.counted("--check"), "18 passed, 0 failed")
 
     def commit(self) -> None:
         self.write(".gitignore", "out/\n")
@@ -215,13 +215,13 @@ class Checked(Tree):
 
     def test_a_version_that_is_not_the_newest_release(self) -> None:
         self.write("release/VERSION", "2031-02-03\n")
-        self.assertEqual(self.counted("--verify"), "13 passed, 1 failed")
+        self.assertEqual(self.counted("--verify"), "15 passed, 1 failed")
         self.assertIn("VERSION isn't the newest release of CHANGELOG.md", self.said)
 
     @BY_GIT
     def test_an_archive_has_no_module_that_is_older(self) -> None:
         self.module("a module")
-        self.assertEqual(self.counted("--verify"), "16 passed, 0 failed")
+        self.assertEqual(self.counted("--verify"), "18 passed, 0 failed")
         self.commit()
         self.assertIsNotNone(self.archive("first"), self.said)
         for number, name in enumerate(("release/pdp11.wasm", "tools/webassembly/heap.ll")):

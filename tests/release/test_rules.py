@@ -25,10 +25,11 @@ DEFINITION = """-- Words: this project's profile [P].
 abbrev pub word : Type
 """
 SESSION = "# Words. [1.1] [1.2]\n# [1.3]\nregs 0\n"
+BITS = "tests/sessions/rules/words/bits.transcript"
 FILES = {
     "docs/MACHINE.md": MACHINE,
     "crates/a/specs/Word.antt": DEFINITION,
-    "tests/sessions/rules/words/bits.transcript": SESSION,
+    BITS: SESSION,
 }
 
 
@@ -83,7 +84,7 @@ class TestRules(unittest.TestCase):
 
     def test_a_number_in_brackets_is_a_rule(self) -> None:
         (told,) = self.failures(bits=SESSION + "# [2.1]\n")
-        self.assertEqual(told, "tests/sessions/rules/words/bits.transcript:4: [2.1] is no rule of docs/MACHINE.md")
+        self.assertEqual(told, f"{BITS}:4: [2.1] is no rule of docs/MACHINE.md")
 
     def test_where_the_mark_of_the_profile_stands(self) -> None:
         (told,) = self.failures(Word=DEFINITION + "\nword = 0 [P]\n")
@@ -103,7 +104,7 @@ class TestRules(unittest.TestCase):
             "- 1.2 A byte has 8 bits, and",
             "  a word two bytes.",
             "crates/a/specs/Word.antt:3: word",
-            "tests/sessions/rules/words/bits.transcript",
+            BITS,
         ]
         self.assertEqual(self.shown("1.2"), (0, "\n".join(lines) + "\n", ""))
 

@@ -18,7 +18,7 @@ from tests.checks.docs import CODE, ITEM, LINK, Document, anchors_of
 from .test_manual import InAFolder
 from .tree import ROOT, SECONDS
 
-TOOL = ROOT / "tools" / "make site"
+TOOL = ROOT / "tools" / "make"
 # What would be loaded, or would run.
 LOADED = {"src", "srcset", "data", "action", "poster", "background"}
 RUNNING = {"script", "iframe", "link", "object", "embed", "base", "form"}
@@ -141,12 +141,19 @@ class Written(InAFolder):
     """The tool, as it is called."""
 
     def run_tool(self, *words: str, path: str = "/usr/bin:/bin") -> tuple[int, str]:
-        command = [shutil.which("python3") or "python3", str(TOOL), *words]
+        command = [shutil.which("python3") or "python3", str(TOOL), "site", *words]
         ran = subprocess.run(
             command, env={"PATH": path}, capture_output=True, text=True, timeout=SECONDS
         )
         self.assertNotIn("Traceback", ran.stderr)
         return ran.returncode, ran.stdout + ran.stderr
+
+    def test_what_is_not_made_is_told(self) -> None:
+        for words in (), ("sites", "folder"), ("--page",):
+            ran = subprocess.run([str(TOOL), *words], capture_output=True, text=True)
+            self.assertEqual((ran.returncode, ran.stdout), (2, ""))
+            self.assertIn("make NAME [WORD..]: ", ran.stderr)
+            self.assertEqual("there are manual, " in ran.stderr, words != ())
 
     def test_bad_arguments_are_told(self) -> None:
         for words in (), ("one", "two"), ("--check", "folder"), ("",):

@@ -33,7 +33,8 @@ runpy.run_path(sys.argv[0], run_name="__main__")' "$@"
 
 
 def tools_in_python() -> list[str]:
-    files = [it for it in (ROOT / "tools").iterdir() if it.is_file()]
+    folders = [ROOT / "tests", ROOT / "tools"]
+    files = [it for folder in folders for it in folder.iterdir() if it.is_file()]
     found = [it for it in files if it.read_bytes().split(b"\n")[0].endswith(b"python3")]
     return [str(it) for it in [ROOT / "explore", *sorted(found)]]
 
@@ -82,8 +83,8 @@ class Lacking(Tree):
         self.assertIn("release: 99 passed, 0 failed, 2 skipped", self.said)
 
     def test_without_a_compiler(self) -> None:
-        for name in "checks/refusals.py", "checks/__init__.py":
-            self.copy(f"tools/{name}")
+        for name in "refusals.py", "__init__.py":
+            self.copy(f"tests/checks/{name}")
         self.path = path_without(self.folder, "rt", "cc")
         ended = self.run_in("tests/refuse-each", "/bin/true", "crates")
         self.assertEqual((ended.returncode, self.said), (77, "cc isn't installed\n"))
@@ -128,8 +129,8 @@ class Lacking(Tree):
         self.assertIn("the first run proves and builds it", self.said)
 
     def test_a_program_that_takes_no_library(self) -> None:
-        for name in "checks/refusals.py", "checks/__init__.py":
-            self.copy(f"tools/{name}")
+        for name in "refusals.py", "__init__.py":
+            self.copy(f"tests/checks/{name}")
         self.write("pdp11-static", b"\x7fELF".ljust(64, b"\0"), 0o755)
         self.write("../bin/cc", "#!/bin/sh\n", 0o755)
         ended = self.run_in("tests/refuse-each", "./pdp11-static", "crates")

@@ -34,8 +34,8 @@ class WithoutTheKit(Tree):
         self.assertEqual((ended.stdout, ended.stderr, ended.returncode), (wanted, "", 0))
 
     def test_help_shows_the_name_of_the_program(self) -> None:
-        for name, stored in ("pdp11", "tests/sessions/rules/program"), ("search", "tests/sessions/rules/searches"):
-            wanted = (ROOT / stored / "help.expected").read_text()
+        for name, folder in ("pdp11", "program"), ("search", "searches"):
+            wanted = (ROOT / "tests/sessions/rules" / folder / "help.expected").read_text()
             self.assertEqual(self.run_in(f"./{name}", "--help").stdout, wanted)
 
     def test_the_first_prompt(self) -> None:

@@ -1,11 +1,13 @@
-// The stored sessions, as tests/stored_sessions.py reads them, and runs of a module by the page's host.
+// The stored sessions, as tests/stored_sessions.py reads them, and runs of a module by the page's
+// host.
 import fs from "node:fs";
 import path from "node:path";
 import { Host, readerOf, zeros } from "../../web/host.js";
 
 const bytes = text => Buffer.from(text, "base64");
 
-// The sessions of a kind, `.session` or `.search`, in the file that tests/checks/web_programs.py writes.
+// The sessions of a kind, `.session` or `.search`, in the file that the check in
+// tests/checks/web_programs.py writes.
 export function sessionsIn(file, kind) {
   return JSON.parse(fs.readFileSync(file))[kind].map(({ lines, expected, ...session }) => ({
     ...session,

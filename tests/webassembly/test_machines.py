@@ -154,7 +154,8 @@ class Machines(unittest.TestCase):
         self.assertEqual(self.edits(), [*LOOP, "at 2 key 101"])
 
     def test_the_stored_sessions(self) -> None:
-        stored = filter(sessions.is_of_both, sessions.sessions_of(str(ROOT / "tests/sessions/rules")))
+        rules = sessions.sessions_of(str(ROOT / sessions.RULES))
+        stored = filter(sessions.is_of_both, rules)
         found = [it for it in stored if not it.args]
         self.assertGreater(len(found), 80)
         for it in found:

@@ -178,7 +178,7 @@ class OfTheHost(unittest.TestCase):
         self.assertEqual((ran.returncode, ran.stderr), (0, ""), ran.stdout)
 
     def test_without_node_the_sessions_are_skipped(self) -> None:
-        words = [sys.executable, str(ROOT / "tools" / "check"), "web-sessions", "tests/sessions/rules"]
+        words = [sys.executable, str(ROOT / "tools" / "check"), "web-sessions", "examples"]
         how: Any = {"capture_output": True, "text": True, "env": {"PATH": "/nowhere"}}
         ran = subprocess.run(words, cwd=ROOT, **how)
         wanted = (77, "node isn't installed\n")

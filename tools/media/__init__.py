@@ -1,0 +1,1 @@
+"""What makes the files of examples/media and of examples/forth."""
