@@ -8,7 +8,8 @@
 //!   nothing), with the plans of pdp_instruction. It tells with which act it began, and the meter
 //!   counts it (`Machine::turn`, `ready`). The vector of the turn's trap can be told too
 //!   (`Machine::turn_and_tell`), and so can the disk's controller when the turn has begun
-//!   (`Machine::turn_and_tell_disk`).
+//!   (`Machine::turn_and_tell_disk`). The turn is the same whatever else runs its act
+//!   (`Machine::turn_by`, [`RunsAct`]).
 //! - A burst of n turns of a calm machine is n turns of the definition without events, each of them
 //!   an instruction that leaves the drives, and the meter counts n (`Machine::run_calmly`). A burst
 //!   with an end runs only turns before which that lets it pass (`run_calmly_while`, [`BurstEnd`]):
@@ -53,6 +54,7 @@ mod regs;
 mod saved;
 mod take_due;
 mod touched_pages;
+mod turn_by;
 mod turn_disk;
 mod turn_trap;
 
@@ -72,5 +74,6 @@ pub use pdp_quick::{Computer, WordTable};
 pub use pdp_unibus::{DeviceRegisters, LAST_TURN, PageRegisters};
 pub use regs::Regs;
 pub use saved::{PagedMachine, Saved, SavedOutput};
+pub use turn_by::RunsAct;
 pub use turn_disk::ActWithDisk;
 pub use turn_trap::ActWithTrap;

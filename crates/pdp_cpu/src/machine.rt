@@ -19,6 +19,7 @@ use crate::kept_text::{KeptByte, KeptText};
 use crate::meter::Meter;
 use crate::regs::Regs;
 use crate::take_due::take_what_is_due;
+use pdp_form::PlacedForms;
 use pdp_icache::Lines;
 use pdp_instruction::instruct;
 use pdp_io_page::Delays;
@@ -74,6 +75,7 @@ impl<S: Store, D: Store> Machine<S, D> {
     pub fn at_power_up(
         alloc: Global,
         lines: Lines,
+        placed: PlacedForms,
         start: u16,
         words: S,
         drives: Vec<D>,
@@ -91,7 +93,7 @@ impl<S: Store, D: Store> Machine<S, D> {
         Machine {
             computer: Computer {
                 processor: Processor::at_power_up(start),
-                bus: Bus::new(lines, words, drives, tape, delays),
+                bus: Bus::new(lines, placed, words, drives, tape, delays),
             },
             turn: 0,
             text: KeptText::new(alloc),

@@ -3,6 +3,7 @@
 use crate::cell_name::{CellName, HalfName};
 use crate::noted_act::{NotedAct, instruct_noting};
 use crate::noted_step::NotedSteps;
+use pdp_form::PlacedForms;
 use pdp_icache::Lines;
 use pdp_io_page::Delays;
 use pdp_operand::Processor;
@@ -18,8 +19,16 @@ type TestBus = Bus<Flat, Flat>;
 fn bus_with(alloc: Global, instruction: u16, second: u16) -> Result<TestBus, NoMemory> {
     let core = Flat::new(alloc, 512, false)?;
     let lines = Lines::new(alloc)?;
+    let placed = PlacedForms::new(alloc)?;
     let delays = Delays::standard();
-    let mut bus = Bus::new(lines, core, Vec::new(alloc), Vec::new(alloc), delays);
+    let mut bus = Bus::new(
+        lines,
+        placed,
+        core,
+        Vec::new(alloc),
+        Vec::new(alloc),
+        delays,
+    );
     let _ = bus.write(0o1000, instruction);
     let _ = bus.write(0o1002, second);
     Ok(bus)

@@ -32,5 +32,5 @@ pub use laws::{
 pub use operand::{YELLOW_LIMIT, address, fetch, fetch_before_store, is_status, lower, store};
 pub use pdp_action::Trap;
 pub use place::{Cell, Fill, Place};
-pub use processor::{GeneralRegister, Processor, RegisterId, RunState};
+pub use processor::{Processor, RegisterId, RunState};
 pub use reference::{read_byte, read_decoded, read_word, write_byte, write_word};

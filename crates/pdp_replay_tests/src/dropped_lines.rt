@@ -1,6 +1,7 @@
 //! A machine over flat stores that drops its decoded lines before each turn.
 
 use pdp_cpu::{Machine, Meter};
+use pdp_form::PlacedForms;
 use pdp_icache::Lines;
 use pdp_io_page::Delays;
 use pdp_store::{Flat, Store};
@@ -25,8 +26,18 @@ fn machine_of(alloc: Global) -> Result<Machine<Flat, Flat>, NoMemory> {
     let mut core = Flat::new(alloc, 512, true)?;
     put(&mut core);
     let lines = Lines::new(alloc)?;
+    let placed = PlacedForms::new(alloc)?;
     let (drives, tape) = (Vec::new(alloc), Vec::new(alloc));
-    Ok(Machine::at_power_up(alloc, lines, 0o1000, core, drives, tape, Delays::standard()))
+    Ok(Machine::at_power_up(
+        alloc,
+        lines,
+        placed,
+        0o1000,
+        core,
+        drives,
+        tape,
+        Delays::standard(),
+    ))
 }
 
 fn run_without_lines(machine: &mut Machine<Flat, Flat>, turns: u32) -> Result<(), NoMemory> {

@@ -1,5 +1,6 @@
 //! Which turns begin quietly: no contract says that any does.
 
+use pdp_form::PlacedForms;
 use pdp_icache::Lines;
 use pdp_io_page::{DelayedDevice, Delays};
 use pdp_store::Flat;
@@ -64,7 +65,15 @@ fn begins_quietly(
 ) -> Result<(), NoMemory> {
     let core = Flat::new(alloc, 256, true)?;
     let lines = Lines::new(alloc)?;
-    let mut bus = Bus::new(lines, core, Vec::new(alloc), Vec::new(alloc), delays);
+    let placed = PlacedForms::new(alloc)?;
+    let mut bus = Bus::new(
+        lines,
+        placed,
+        core,
+        Vec::new(alloc),
+        Vec::new(alloc),
+        delays,
+    );
     bus.events(1, &[]);
     for (turn, is_quiet, written) in turns {
         assert_begins(rt, &mut bus, *turn, *is_quiet, *written);

@@ -1,5 +1,6 @@
 pub mod Handbook
 pub mod Laws
+pub mod CompletionMoves
 pub mod Moves
 pub mod Trace
 pub mod Touched

@@ -106,7 +106,7 @@ impl Rk {
 
     /// Why the function can't be done with this number of drives, if so.
     #[tactic(auto, unfolding(crate::specs::Handbook::Completion::refusal))]
-    fn refusal(&self, drives: usize) -> Option<Failure>
+    pub(crate) fn refusal(&self, drives: usize) -> Option<Failure>
         ensures value { result ≡ refusal self.now drives }
         ensures drive { result ≡ None → drive_in self.now.disk_address < drives }
         ensures sector { result ≡ None → names_sector self.now.function ≡ true
@@ -187,7 +187,7 @@ impl Rk {
 
     /// The words of a transfer, with `words` words of core and a drive of `size` words.
     #[tactic(auto, unfolding(crate::specs::Handbook::Completion::transfer_of))]
-    fn transfer_of(&self, words: usize, size: usize) -> Transfer
+    pub(crate) fn transfer_of(&self, words: usize, size: usize) -> Transfer
         requires { sector_number self.now.disk_address < sectors_of_drive }
         ensures value { result ≡ transfer_of self.now words size }
         ensures on_disk { (i : ℕ) → i < result.count → disk_word result i < size }

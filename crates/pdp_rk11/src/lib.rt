@@ -18,6 +18,7 @@
 //!   that a read check reads, and each word of the zero fill. A refused function touches none.
 //! - The controller before a completion and after it tells how many words the function moved or
 //!   compared (`Rk::words_done`, `words_done_are_counted`).
+//! - Which words a completion will move is told before it (`Rk::moves`).
 //! - A completion does the same whatever last stamps core has (`stamps_disturb_no_completion`).
 //!
 //! Addresses, how a byte is written to a register and which request is served are left to
@@ -26,6 +27,7 @@
 
 mod bits;
 mod completion;
+mod disk_moves;
 mod failure;
 mod function;
 mod geometry;
@@ -35,6 +37,7 @@ mod rk;
 mod transfer;
 mod words_done;
 
+pub use disk_moves::DiskMoves;
 pub use failure::Failure;
 pub use function::Function;
 pub use laws::{
@@ -44,3 +47,4 @@ pub use laws::{
 };
 pub use register::RkRegister;
 pub use rk::{ControlWrite, Rk};
+pub use transfer::Transfer;

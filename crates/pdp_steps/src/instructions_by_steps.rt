@@ -3,6 +3,7 @@
 use crate::step::Microstep;
 use crate::step_latch::StepLatch;
 use crate::step_run::{carry_out, run_sequence, run_step};
+use pdp_form::PlacedForms;
 use pdp_icache::Lines;
 use pdp_instruction::{SavedContext, instruct, vector};
 use pdp_io_page::Delays;
@@ -51,8 +52,16 @@ type TestBus = Bus<Flat, Flat>;
 fn bus_with(alloc: Global, words: [u16; 3]) -> Result<TestBus, NoMemory> {
     let core = Flat::new(alloc, usize::from(WORDS), false)?;
     let lines = Lines::new(alloc)?;
+    let placed = PlacedForms::new(alloc)?;
     let delays = Delays::standard();
-    let mut bus = Bus::new(lines, core, Vec::new(alloc), Vec::new(alloc), delays);
+    let mut bus = Bus::new(
+        lines,
+        placed,
+        core,
+        Vec::new(alloc),
+        Vec::new(alloc),
+        delays,
+    );
     for place in 0..WORDS {
         let _ = bus.write(u32::from(place) * 2, place % 256 * 2);
     }

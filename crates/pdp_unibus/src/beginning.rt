@@ -11,8 +11,8 @@ ghost use Rattle.pdp_unibus.specs.SingleBytes.{IsSingle, StaysSingle};
 ghost use Rattle.pdp_unibus.specs.declared.beginning.Output.{Output};
 
 use crate::bus::Bus;
-use crate::direct::no_pages;
 use crate::event::Event;
+use crate::known::shut_all;
 use pdp_io_page::Watch;
 use pdp_store::Store;
 
@@ -56,7 +56,7 @@ impl<S: Store, D: Store> Bus<S, D> {
         ensures { self.new ≡ record self.old { turn = turn } }
     {
         if turn < self.turn {
-            self.direct = no_pages();
+            shut_all(&mut self.known);
         }
         self.watch = Watch::unknown();
         self.turn = turn;
@@ -191,7 +191,7 @@ impl<S: Store, D: Store> Bus<S, D> {
         ensures single { StaysSingle self.old.io_page self.new.io_page }
     {
         self.watch = Watch::unknown();
-        self.direct = no_pages();
+        shut_all(&mut self.known);
         self.io_page
             .disk
             .complete(&mut self.core, &mut self.drives, self.turn);

@@ -12,7 +12,8 @@
 //!   ends, which is in the turn in which it is due unless its event or RESET ended it before
 //!   (`bytes_come_out_as_operations_end`, `operations_end_when_due`). A read takes the tape's next
 //!   byte (`reads_take_the_next_byte`). A key waits until it is read, and is read once
-//!   (`keys_wait_and_are_read_once`).
+//!   (`keys_wait_and_are_read_once`). What a beginning will find of the tape, of the reader and of
+//!   the disk can be told before it (`Bus::bytes_read`, `reader_operation`, `disk_moves`).
 //! - The requests of keyboard, printer, punch and disk are there exactly by their one rule
 //!   (`requests_go_by_the_rule`). The bus chooses and serves them, and does RESET, as its I/O page
 //!   does (`Bus::choose`, `serve`, `reset`).
@@ -30,8 +31,8 @@
 //!   `forget`).
 //! - An access that goes to core and changes no mapping register: a read gives the word or byte and
 //!   leaves the bus, as its page was touched before; a write leaves what a bus cycle leaves. One
-//!   that isn't so does nothing (`Bus::core_word`, `core_index`, `core_byte`, `write_core`,
-//!   `write_core_byte`, and `write_core_pair` for two words).
+//!   that isn't so does nothing (`Bus::core_word`, `core_byte`, `write_core`, `write_core_byte`, and
+//!   `write_core_pair` for two words).
 //! - If core keeps a log, each cycle of the processor is added to it: those of core, of registers,
 //!   and those that time out (`Bus::logging`, `cycles`, `unlogged`). A read that goes to core
 //!   changes nothing only where no log is kept.
@@ -47,12 +48,14 @@
 //! pdp_operand, interrupts and `Continue` to pdp_cpu.
 #![tactic(auto)]
 
+mod before_beginning;
 mod beginning;
 mod bus;
 mod cycles;
 mod direct;
 mod drives;
 mod event;
+mod known;
 mod last_turn;
 mod laws;
 mod logging;

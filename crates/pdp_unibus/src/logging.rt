@@ -5,7 +5,7 @@ ghost use Rattle.pdp_store.specs.CycleLogs.{without_cycles, no_log};
 ghost use Rattle.pdp_unibus.specs.Handbook.BusWorld.{with_log};
 
 use crate::bus::Bus;
-use crate::direct::no_pages;
+use crate::known::shut_all;
 use pdp_store::{BusCycle, CycleLog, Logging, Paged, PagedDrive, Store};
 
 impl<S: Store, D: Store> Bus<S, D> {
@@ -13,9 +13,11 @@ impl<S: Store, D: Store> Bus<S, D> {
     pub fn logging(self, log: CycleLog) -> Bus<Logging<S>, D>
         ensures { result ≡ with_log self log }
     {
+        let mut known = self.known;
+        shut_all(&mut known);
         Bus {
             turn: self.turn,
-            direct: no_pages(),
+            known,
             core: Logging {
                 store: self.core,
                 log,
@@ -51,9 +53,11 @@ impl Bus<Logging<Paged>, PagedDrive> {
         ensures { result ≡ with_log self no_log }
     {
         let core = self.core;
+        let mut known = self.known;
+        shut_all(&mut known);
         Bus {
             turn: self.turn,
-            direct: no_pages(),
+            known,
             core: core.store,
             drives: self.drives,
             io_page: self.io_page,

@@ -6,7 +6,7 @@ ghost use Rattle.pdp_store.specs.FirstTouches.{first_touches_in, first_turn, nev
 ghost use Rattle.pdp_unibus.specs.Handbook.BusWorld.{with_first_touches};
 
 use crate::bus::Bus;
-use crate::direct::no_pages;
+use crate::known::shut_all;
 use pdp_store::{Part, Store};
 
 impl<S: Store, D: Store> Bus<S, D> {
@@ -28,7 +28,7 @@ impl<S: Store, D: Store> Bus<S, D> {
         ensures { self.new
             ≡ with_first_touches self.old (all_first_touches_before turn self.old.first_touches) }
     {
-        self.direct = no_pages();
+        shut_all(&mut self.known);
         self.core.forget(turn);
         forget_each(&mut self.drives, turn);
     }

@@ -13,6 +13,7 @@ ghost use Rattle.pdp_replay.specs.Run.KeptRuns.{CountsTurns, KeepsRun, RunsUpTo}
 use crate::past::{BaseSetup, DRIVE_WORDS, UNIT_WORDS};
 use crate::run::{KeptRun, run_part};
 use pdp_cpu::{Machine, Meter, PagedMachine, Saved, WordTable};
+use pdp_form::PlacedForms;
 use pdp_icache::Lines;
 use pdp_io_page::Delays;
 use pdp_script::Script;
@@ -173,8 +174,9 @@ fn blank_machine(
     let core = Paged::new(alloc, usize::from(base_setup.units) * UNIT_WORDS, true)?;
     let drives = blank_drives(alloc, base_setup.drives.count())?;
     let lines = Lines::new(alloc)?;
+    let placed = PlacedForms::new(alloc)?;
     let (start, delays) = (base_setup.start, Delays::standard());
-    Ok(Machine::at_power_up(alloc, lines, start, core, drives, tape, delays))
+    Ok(Machine::at_power_up(alloc, lines, placed, start, core, drives, tape, delays))
 }
 
 /// `count` drives, whose words are all 0.

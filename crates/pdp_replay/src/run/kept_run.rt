@@ -20,6 +20,7 @@ use crate::past::{BaseSetup, core_store, drive_store};
 use crate::run::{next_pause, run_part};
 use pdp_checkpoint::Ladder;
 use pdp_cpu::{Act, Machine, Meter, PagedMachine, WordTable};
+use pdp_form::PlacedForms;
 use pdp_icache::Lines;
 use pdp_io_page::Delays;
 use pdp_script::Script;
@@ -304,5 +305,15 @@ fn first_machine(
     let drives = vec![in alloc; drive_store(alloc, base_setup.image(0))?]?;
     let delays = Delays::standard();
     let lines = Lines::new(alloc)?;
-    Ok(Machine::at_power_up(alloc, lines, base_setup.start, core, drives, tape, delays))
+    let placed = PlacedForms::new(alloc)?;
+    Ok(Machine::at_power_up(
+        alloc,
+        lines,
+        placed,
+        base_setup.start,
+        core,
+        drives,
+        tape,
+        delays,
+    ))
 }

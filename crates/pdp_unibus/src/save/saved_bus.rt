@@ -8,7 +8,7 @@ ghost use Rattle.pdp_unibus.specs.SavedBusData.{saved_bus_with_core, saved_bus_w
 ghost use Rattle.pdp_unibus.specs.SavedBusData.{bus_with_tape};
 
 use crate::bus::Bus;
-use crate::direct::no_pages;
+use crate::known::shut_all;
 use crate::save::saved_drives::{load_each, take_each};
 use pdp_io_page::{Delays, IoPage, Watch};
 use pdp_store::{Page, Paged, PagedDrive, Pages, Store};
@@ -88,7 +88,7 @@ impl Bus<Paged, PagedDrive> {
         requires { IsCoreOfSize pages.now self.old }
         ensures { self.new ≡ with_core_of pages.now self.old }
     {
-        self.direct = no_pages();
+        shut_all(&mut self.known);
         self.core.load_pages(pages);
         self.lines.clear();
     }
@@ -132,7 +132,7 @@ impl Bus<Paged, PagedDrive> {
     {
         load_each(&mut self.drives, &saved.drives);
         self.watch = Watch::unknown();
-        self.direct = no_pages();
+        shut_all(&mut self.known);
         self.io_page = saved.io_page.copy();
         self.tape.go_to(saved.bytes_read);
         self.turn = saved.turn;

@@ -9,7 +9,7 @@ ghost use Rattle.pdp_unibus.specs.Handbook.BusWorld.{with_first_touches};
 ghost use Rattle.pdp_unibus.specs.SavedTouches.{HasPagesOf, turns_in};
 
 use crate::bus::Bus;
-use crate::direct::no_pages;
+use crate::known::shut_all;
 use pdp_store::{Paged, PagedDrive, Paging};
 use pdp_word::NoMemory;
 use std::alloc::Global;
@@ -53,7 +53,7 @@ impl Bus<Paged, PagedDrive> {
         ensures { self.new ≡ with_first_touches self.old (first_touches_over from
             self.old.first_touches (all_first_touches_before to over.now)) }
     {
-        self.direct = no_pages();
+        shut_all(&mut self.known);
         self.core.lay_touches(&over.core, from, to);
         lay_each(&mut self.drives, &over.drives, from, to);
     }

@@ -5,7 +5,7 @@ ghost use Rattle.pdp_unibus.specs.SavedBusData.{saved_bus_with_stamps, with_core
 
 use super::SavedBus;
 use crate::bus::Bus;
-use crate::direct::no_pages;
+use crate::known::shut_all;
 use crate::save::saved_drives::each_has_words;
 use pdp_store::{Paged, PagedDrive, Store};
 
@@ -47,7 +47,7 @@ impl Bus<Paged, PagedDrive> {
         requires { HasSizesOf saved.now self.old }
         ensures { self.new ≡ with_core_over turn saved.now self.old }
     {
-        self.direct = no_pages();
+        shut_all(&mut self.known);
         self.core.load_pages_over(&saved.core, turn);
         self.lines.clear();
     }

@@ -14,7 +14,7 @@ invariant_of-self g c = (
   search rules,
   (
     c.self.invariant.1.0,
-    direct_later c.self.inside.direct _ _ _ _ _ _
+    direct_later c.self.inside.known.direct _ _ _ _ _ _
         (later_turn c.self.inside.turn c.args.turn _ c.if-quiet.true) c.self.invariant.1.1,
   ),
 )
