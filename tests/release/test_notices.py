@@ -89,13 +89,14 @@ class Licences(unittest.TestCase):
     def test_the_projects_own(self) -> None:
         self.assertTrue(text_of("LICENSE-MIT").startswith(f"{OWNER}\n"))
         self.assertIn("Version 2.0, January 2004", text_of("LICENSE-APACHE"))
-        for name in "pyproject.toml", "setup.py", "release/NOTICES", "docs/CONTRIBUTING.md":
+        for name in "pyproject.toml", "setup.py", "release/NOTICES", "docs/CHANGING.md":
             self.assertIn(LICENCE, text_of(name))
         listed = "".join(f"\n  - {it}" for it in LICENCE.split(" OR "))
         self.assertIn(f"\nlicense:{listed}\n", text_of("CITATION.cff"))
 
     def test_contributing(self) -> None:
-        text = text_of("docs/CONTRIBUTING.md")
-        self.assertIn("(CHANGING.md)", text)
-        self.assertIn("Security: ", text)
-        self.assertLessEqual(len(text.splitlines()), 12)
+        part = text_of("docs/CHANGING.md").split("\n## Contribute\n", 1)[1].split("\n\n", 1)[0]
+        self.assertIn("Bugs: ", part)
+        self.assertIn("Security: ", part)
+        self.assertLessEqual(len(part.splitlines()), 8)
+        self.assertIn("(docs/CHANGING.md#contribute)", text_of("README.md"))
