@@ -1,4 +1,4 @@
-# %% Draws turns 0 to 40 of examples/who-wrote-this-word.session, as README.md shows them.
+# %% Draws turns 0 to 40 of examples/who-wrote-this-word.session, as docs/USING.md shows them.
 # In the clone: PYTHONPATH=src python3 examples/notebook/picture.py > docs/lost-update.svg
 from itertools import groupby
 from pathlib import Path

@@ -119,7 +119,7 @@ class Programs(Case):
         return written.getvalue()
 
     def test_picture(self) -> None:
-        """That of README is what is drawn now."""
+        """That of USING is what is drawn now."""
         drawn = self.written_by(PICTURE)
         self.assertEqual(drawn, (ROOT / "docs" / "lost-update.svg").read_text())
         texts = [it.text for it in ElementTree.fromstring(drawn).iter() if it.tag.endswith("text")]
