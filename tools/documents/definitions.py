@@ -16,16 +16,16 @@ LONGEST = 120  # characters of a cell
 
 HEAD = """# Definitions and laws
 
-`tools/make definitions` writes this page from the comments in `specs/` and the docstrings of laws,
-and the gate compares it with them. So don't edit it. [PROOFS.md](../docs/PROOFS.md) says how
-definitions, contracts and laws belong together, and which to read first.
+Don't edit this page: `tools/make definitions` writes it from the comments in `specs/` and the
+docstrings of laws, and the gate compares. [PROOFS.md](../docs/PROOFS.md) says how definitions,
+contracts and laws belong together, and which to read first.
 
-The crates go from the bottom up, and each module uses only modules above it. The module
-`Handbook.Jump` of pdp_instruction is the file `crates/pdp_instruction/specs/Handbook/Jump.antt`. A
-law is a function in `src/laws.rt` or `src/extended_laws.rt` of its crate. Two dots stand for the
-rest of a long sentence. The source of a rule is a chapter of the DEC PDP-11/40 Processor Handbook
-(1972) or of the PDP-11 Peripherals Handbook (Unibus, or the name of a device), or this project's
-profile ([\\[P\\]](../docs/MACHINE.md)). Without a source a module has no rule of the machine.
+The crates go from the bottom up. Each module uses only modules above it. The module `Handbook.Jump`
+of pdp_instruction is the file `crates/pdp_instruction/specs/Handbook/Jump.antt`. A law is a
+function in `src/laws.rt` or `src/extended_laws.rt` of its crate. Two dots stand for the rest of a
+long sentence. The source of a rule is a chapter of the DEC PDP-11/40 Processor Handbook (1972), a
+chapter of the PDP-11 Peripherals Handbook (Unibus, or the name of a device), or this project's
+profile ([\\[P\\]](../docs/MACHINE.md)). A module without a source has no rule of the machine.
 
 | module or law | what it says | source |
 |---|---|---|
