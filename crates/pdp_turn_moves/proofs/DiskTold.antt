@@ -1,5 +1,5 @@
 -- What the disk moves in the beginning of a turn.
-use Rattle.std.proofs.Common.{◌≡◌, ◌∙◌, ℕ, zero, suc, ◌+◌, ◌-◌, ◌==◌, ◌&&◌, ◌||◌, Bool, true, false, List, [], ◌∷◌, Option, Some, None, map, flat_map, length, nat_le, nat_lt, refl, sym, ap, true≢false, if◌then◌else◌}
+use Rattle.std.proofs.Common.{◌≡◌, ◌∙◌, ℕ, zero, suc, ◌+◌, ◌-◌, ◌==◌, ◌&&◌, ◌||◌, Bool, true, false, List, [], ◌∷◌, Option, Some, None, map, length, nat_le, nat_lt, refl, sym, ap, true≢false, if◌then◌else◌}
 use Rattle.pdp_device.specs.Operation.{is_due, is_under_way}
 use Rattle.pdp_device.specs.declared.operation.Operation.{Operation}
 use Rattle.pdp_rk11.specs.CompletionMoves.{completion_moves, function_moves, moves_unless_refused}
@@ -10,14 +10,14 @@ use Rattle.pdp_rk11.specs.Laws.{transfer_in}
 use Rattle.pdp_rk11.specs.Moves.{item_after}
 use Rattle.pdp_rk11.specs.declared.failure.Failure.{Failure}
 use Rattle.pdp_rk11.specs.declared.function.Function.{Function}
-use Rattle.pdp_rk11.specs.declared.function.Function.TheVariants.{ControlReset, Write, Read, WriteCheck, Seek, ReadCheck, DriveReset, WriteLock}
+use Rattle.pdp_rk11.specs.declared.function.Function.TheVariants.{Write, Read}
 use Rattle.pdp_rk11.specs.declared.transfer.Transfer.{Transfer}
 use Rattle.pdp_rk11.proofs.Readiness.{completed_idle, completed_operation}
 use Rattle.pdp_unibus.specs.Handbook.Beginning.{Progress, after_event}
 use Rattle.pdp_unibus.specs.Handbook.BusWorld.{BusWorld, disk_world_of}
 use Rattle.pdp_unibus.specs.declared.event.Event.{Event}
 use Rattle.pdp_unibus.specs.declared.event.Event.TheVariants as event
-use Rattle.pdp_made.specs.Cells.{Half, DataCell, DeviceBuffer, CoreByte, DriveByte, RegisterByte, CodeNow, Buffer, Keyboard, Printer, Reader, Punch, Switches, TapeByte, ValueByte, SourceByte, ResultByte, StatusByte, CodeDue, CodeSaved}
+use Rattle.pdp_made.specs.Cells.{Half, DataCell, DeviceBuffer, CoreByte, DriveByte, Buffer, Keyboard, Reader, Switches, TapeByte}
 use Rattle.pdp_made_run.specs.BeginningRows.{made_by_disk, made_by_event, made_if}
 use Rattle.pdp_made_run.specs.DiskRows.{core_moved, drive_written, item_after_all, made_by_completion, made_by_function, made_unless_refused}
 use Rattle.pdp_made_run.specs.Origins.{Held, Origin, still_held}

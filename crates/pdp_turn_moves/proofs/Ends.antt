@@ -1,5 +1,5 @@
 -- An operation ends at most once in the beginning of a turn, by an event or because it is due: nothing begins one there.
-use Rattle.std.proofs.Common.{◌≡◌, ◌∙◌, ℕ, suc, ◌||◌, ◌++◌, Bool, true, false, List, [], ◌∷◌, flat_map, refl, sym, ap, ap₂, append-nil, true≢false, if◌then◌else◌}
+use Rattle.std.proofs.Common.{◌≡◌, ◌∙◌, ℕ, suc, ◌||◌, ◌++◌, Bool, true, false, List, [], ◌∷◌, flat_map, refl, sym, ap, ap₂, append-nil, true≢false}
 use Rattle.pdp_device.specs.Operation.{is_due, is_under_way}
 use Rattle.pdp_device.specs.declared.operation.Operation.{Operation}
 use Rattle.pdp_unibus.specs.Handbook.Beginning.{Progress, after_event, after_events}

@@ -4,3 +4,4 @@ pub mod Ends
 pub mod DiskTold
 pub mod ReaderTold
 pub mod BeginningTold
+pub mod Turns

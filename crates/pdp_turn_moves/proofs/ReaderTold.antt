@@ -1,5 +1,5 @@
 -- What the reader moves in the beginning of a turn.
-use Rattle.std.proofs.Common.{◌≡◌, ◌∙◌, ℕ, ◌&&◌, ◌||◌, Bool, true, false, not, List, [], ◌∷◌, Option, Some, None, is_some, refl, sym, ap, true≢false, if◌then◌else◌}
+use Rattle.std.proofs.Common.{◌≡◌, ◌∙◌, ℕ, ◌&&◌, ◌||◌, Bool, true, false, not, List, Option, Some, None, is_some, refl, sym, ap, true≢false, if◌then◌else◌}
 use Rattle.pdp_device.specs.Operation.{is_due, is_under_way}
 use Rattle.pdp_device.specs.declared.operation.Operation.{Operation}
 use Rattle.pdp_tape.specs.Reader.{read_over, takes_byte}
@@ -11,7 +11,7 @@ use Rattle.pdp_unibus.specs.declared.event.Event.{Event}
 use Rattle.pdp_unibus.specs.declared.event.Event.TheVariants as event
 use Rattle.pdp_made.specs.Cells.{DataCell, Buffer, Reader, TapeByte}
 use Rattle.pdp_made_run.specs.BeginningRows.{byte_taken, made_by_event, made_if}
-use Rattle.pdp_made_run.specs.Origins.{Held, Origin, still_held}
+use Rattle.pdp_made_run.specs.Origins.{Origin, still_held}
 use Rattle.pdp_turn_moves.specs.Beginnings.{ends_reading, reader_moved, reader_told}
 use Rattle.pdp_turn_moves.proofs.DiskTold.{buffer_left, tape_left as tape_stays}
 use Rattle.pdp_turn_moves.proofs.Ends.{AllHeld}

@@ -1,4 +1,5 @@
 -- What is due, by its name in the code.
 pub mod Acts
--- What the beginning of a turn moves.
+-- What a turn moves, in its beginning and as a whole.
 pub mod Beginnings
+pub mod TurnOrigins

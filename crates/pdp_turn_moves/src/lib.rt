@@ -10,6 +10,8 @@
 //! - What the beginning of a turn moves is told before it, in a few words of constant size: for
 //!   each cell they name exactly the origins that `made_in_beginning` of pdp_made_run names
 //!   (`BeginningMoves::of`).
+//! - A whole turn that is run so is the turn of pdp_cpu, and what is noted of it names exactly the
+//!   origins that `made_in_turn` of pdp_made_run names (`TurnMoves::run`).
 //!
 //! Nothing here takes memory.
 #![tactic(auto)]
@@ -18,6 +20,8 @@ mod act_moves;
 mod beginning_moves;
 mod due_act;
 mod found_events;
+mod turn_moves;
 
 pub use act_moves::act_noting;
 pub use beginning_moves::{BeginningMoves, TapeRead};
+pub use turn_moves::{ActNotes, TurnMoves};
