@@ -6,18 +6,17 @@ from typing import Iterator
 
 from nezdrab.analysis.transfers import functions_done, with_stays, words_of_core
 from nezdrab.core.engine import Machine, Start
-from nezdrab.core.replies import DiskFunction
 from tests.checks.flows import each_flow, word_of
 from tests.checks.stored_systems import System
 
-READING = (DiskFunction.WRITE, DiskFunction.WRITE_CHECK)
+READING = ("write", "write-check")
 
 
 def reads_by_disk(machine: Machine, turns: range, address: int) -> Iterator[int]:
     """The turns in which the disk reads the word, before the act."""
     reading = [it for it in functions_done(machine, turns) if it.function in READING]
     for it, stays in with_stays(machine, reading):
-        if address in words_of_core(it.core & ~1, it.count, stays):
+        if address in words_of_core(it.address & ~1, it.count, stays):
             yield it.turn
 
 

@@ -4,7 +4,7 @@ from unittest import mock
 
 from nezdrab.analysis.disassembly import Disassembler
 from nezdrab.analysis.explorer import Explorer
-from nezdrab.analysis.sweep import Sweep
+from nezdrab.analysis.sweep import LineSweep
 from nezdrab.core.engine import Machine
 from nezdrab.core.program import Program
 from nezdrab.main import read_session
@@ -168,12 +168,12 @@ class Depth(OnMachine):
         machine = self.explorer().machine
         for first, asked in ((99_997_000, 100_000_000), (126_400, 131_000), (70_000, 10_000_000)):
             text = f"key 101 from {first} to {first + 999}: mem {asked} 1000 1"
-            sweep = Sweep.of(machine, text)
-            stride = sweep.placed.stride(sweep.turns[0]) or 0
+            sweep = LineSweep.of_line(machine, text)
+            stride = sweep.stride(sweep.turns[0]) or 0
             self.assertLess(first % stride, 256)
             self.assertGreaterEqual(stride * 256, asked)
-        sweep = Sweep.of(machine, "tick from 0 to 9: regs 20")
-        self.assertIsNone(sweep.placed.stride(sweep.turns[0]))
+        sweep = LineSweep.of_line(machine, "tick from 0 to 9: regs 20")
+        self.assertIsNone(sweep.stride(sweep.turns[0]))
         twin = machine.twin(stride=12_345)
         self.addCleanup(twin.close)
         self.assertEqual(twin.start.options, ["--stride", "12345"])

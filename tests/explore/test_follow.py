@@ -174,7 +174,7 @@ class AtPrompt(AtTerminal):
         self.begin("examples/ledger/ledger.session")
         self.type("follow 15 to 999999999\n")
         self.wait_for(b"turn 126967: event 15")
-        self.wait_for(b"turns,")  # the bar
+        self.wait_for(b" turns, 2 s")  # the bar, beyond the turns that have lines
         self.interrupt()
         self.wait_for(b"turn 128066: disk 0000000 is overwritten")
         self.wait_for(b" on weren't looked at: stopped")

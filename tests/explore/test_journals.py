@@ -371,11 +371,11 @@ class ByEdits(OnMachine):
                 drive = "0 " if "version 2" in machine.journal else ""
                 machine.ask(self.edit(chance, len(machine.script), drive))
             machine.read("regs 60")
-            before = machine.program
+            before = machine.begin()
             for count in (chance.randrange(1, 4), 1):
                 machine.take_back(min(count, len(machine.journal) - len(program)))
                 wanted = self.replies(machine.journal)
                 self.assertEqual([*map(machine.ask, self.ASKED)], wanted[:-1], machine.journal)
-            kept += machine.program is before
+            kept += machine.begin() is before
             self.assertEqual(machine.ask("at 50 tick"), wanted[-1], machine.journal)
         self.assertGreater(kept, 5)

@@ -30,7 +30,7 @@ def before(machine: Machine, turn: int, address: int, top: int) -> bytes:
     state = "\n".join(machine.read_all(lines)).encode()
     places = range(0, top, 2 * MOST_WORDS)
     asked = [b"mem %d %o %d" % (turn, it, MOST_WORDS) for it in places]
-    core = bytearray(b"".join(machine.ascending(asked, 7 * MOST_WORDS)))
+    core = bytearray(b"".join(machine.rows(asked)))
     part, word = divmod(address // 2, MOST_WORDS)
     at = part * (len(core) // len(places)) + len(b"mem") + 7 * word
     core[at : at + 7] = b""
@@ -89,13 +89,13 @@ class Patched(OfSystems):
         found = self.read_by_processor(machine, turns)
         done = functions_done(machine, range(turns.start, self.end))
         for it, stays in with_stays(machine, [it for it in done if it.function in READING]):
-            found.update(words_of_core(it.core & ~1, it.count, stays))
+            found.update(words_of_core(it.address & ~1, it.count, stays))
         return found
 
     def course(self, machine: Machine, turns: range, words: set[int]) -> list[bytes]:
         """The registers before each turn, and after the last one the devices and these words."""
         lines = [b"regs %d" % it for it in range(turns.start, turns.stop + 1)]
-        found = list(machine.ascending(lines, 130))
+        found = list(machine.rows(lines))
         end = turns.stop
         lines = [b"%b %d" % (it, end) for it in (b"devices", b"pages", b"text", b"punched")]
         lines += [b"mem %d %o 1" % (end, it) for it in sorted(words)]

@@ -88,7 +88,7 @@ class Stopping(Case):
         engine = machine._engine
 
         def late(lines: Sequence[str], ahead: int) -> Iterator[str]:
-            engine.program.replies(lines)
+            engine.begin().replies(lines)
             raise KeyboardInterrupt
 
         with mock.patch.object(engine, "ask_all", late), self.assertRaises(KeyboardInterrupt):
@@ -118,7 +118,7 @@ class Stopping(Case):
         machine = self.machine()
         machine.core[0o1000] = LOOP
         machine.at(9, "tick")
-        machine._engine.program.process.kill()
+        machine._engine.begin().process.kill()
         with self.assertRaisesRegex(ProgramEnded, "status -9; the next line starts it again"):
             machine.regs(5)
         self.check(machine)
@@ -142,7 +142,7 @@ class Stopping(Case):
         """The program of a machine ends with it, and leaves no zombie; but not with a copy of the
         machine in a process that os.fork makes."""
         machine = Machine(program=program())
-        process = machine._engine.program.process.pid
+        process = machine._engine.begin().process.pid
         child = os.fork()
         if child == 0:
             warnings.simplefilter("ignore")  # the copy's pipes are closed unsaid

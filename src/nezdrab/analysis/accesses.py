@@ -3,13 +3,13 @@ from typing import Iterator
 
 from ..core.engine import MOST_TURNS_OF_A_TRAIL
 from ..core.errors import ExploreError
+from ..core.found import Transfer
 from ..core.in_words import counted
-from ..core.replies import BusCycle, DiskFunction, TurnAccesses
+from ..core.replies import BusCycle, TurnAccesses
 from .command import Arguments, command
 from .explorer import Explorer
 from .listing import HEADING, seen
 from .operand_values import name_of
-from .transfers import DoneFunction
 
 INDENT = " " * 20
 
@@ -20,17 +20,17 @@ def cycle_line(cycle: BusCycle) -> str:
     return f"{cycle.line()} {name_of(cycle.address) if has_name else ''}".rstrip()
 
 
-def function_line(done: DoneFunction) -> str:
+def function_line(done: Transfer) -> str:
     """A function of the disk that was done before the act of a turn."""
-    drive, core = f"word {done.word:07o} of drive {done.drive}", f"core {done.core:06o}"
-    what = done.function.title
-    if done.function == DiskFunction.WRITE:
-        what += f" of {counted(done.count, 'word')} from {core} to {drive}"
-    elif done.function == DiskFunction.READ:
-        what += f" of {counted(done.count, 'word')} from {drive} to {core}"
-    elif done.function in (DiskFunction.WRITE_CHECK, DiskFunction.READ_CHECK):
-        what += f" of {counted(done.count, 'word')}, {drive} and {core}"
-    return f"disk: {what}{f', RKER {done.errors:06o}' if done.errors else ''}"
+    drive, core = f"word {done.index:07o} of drive {done.drive}", f"core {done.address:06o}"
+    what, words = done.function.replace("-", " "), counted(done.count, "word")
+    if done.function == "write":
+        what += f" of {words} from {core} to {drive}"
+    elif done.function == "read":
+        what += f" of {words} from {drive} to {core}"
+    elif done.function in ("write-check", "read-check"):
+        what += f" of {words}, {drive} and {core}"
+    return f"disk: {what}{f', RKER {done.error:06o}' if done.error else ''}"
 
 
 def lines_of(turn: TurnAccesses) -> Iterator[str]:
@@ -39,7 +39,7 @@ def lines_of(turn: TurnAccesses) -> Iterator[str]:
     yield from (f"printed {it:03o}" for it in turn.printed)
     yield from (f"punched {it:03o}" for it in turn.punched)
     if turn.done is not None:
-        yield function_line(DoneFunction.of(f"{turn.turn.turn} before {turn.done}"))
+        yield function_line(Transfer.of(f"{turn.turn.turn} before {turn.done}"))
     yield from map(cycle_line, turn.cycles)
 
 

@@ -4,7 +4,7 @@ from typing import NamedTuple, Optional
 from ..core.engine import Machine
 from ..core.hardware import OPERAND_TRAPS
 from ..core.register_rows import KSP, PC, PLACE, POINTERS, STATUS, USP
-from ..core.replies import MODES, DiskFunction, Mode, Registers, Turn
+from ..core.replies import MODES, Mode, Registers, Turn
 from ..core.turn_batches import Batch
 from ..core.values import dataclass
 from .finder import Finder
@@ -13,7 +13,6 @@ from .routines import Label, Labels
 from .transfers import functions_done
 
 SEQUENTIAL = (2, 4, 6)  # bytes from an instruction to the one behind it
-WORD_BYTES = 15  # of a reply of `virtual`
 
 
 class State(NamedTuple):
@@ -80,8 +79,8 @@ class CallStep:
     def is_load(self) -> bool:
         return not self.is_jump and is_load(self.word)
 
-    def line_of_word(self) -> str:
-        return f"virtual {self.turn} {self.before.mode.value} {self.before.pc:o} 1"
+    def line_of_word(self) -> bytes:
+        return f"virtual {self.turn} {self.before.mode.value} {self.before.pc:o} 1".encode()
 
 
 @dataclass
@@ -97,7 +96,7 @@ class Known:
         finder = Finder(machine)
         traps = {turn for it in OPERAND_TRAPS for turn in finder.each(turns, f"trap {it:o}")}
         done = functions_done(machine, turns)
-        return cls(traps, {it.turn for it in done if it.function == DiskFunction.READ})
+        return cls(traps, {it.turn for it in done if it.function == "read"})
 
 
 def steps_of(machine: Machine, batch: Batch, labels: Labels, known: Known) -> list[CallStep]:
@@ -118,10 +117,7 @@ def steps_of(machine: Machine, batch: Batch, labels: Labels, known: Known) -> li
 
 def add_words(machine: Machine, steps: list[CallStep], known: Known) -> None:
     """Asks for the words that the instructions of these turns were fetched with."""
-    lines = [it.line_of_word() for it in steps]
-    blocks = machine.blocks(lines, WORD_BYTES)
-    replies = (reply for block in blocks for reply in block.splitlines())
-    for step, reply in zip(steps, replies):
+    for step, reply in zip(steps, machine.rows([it.line_of_word() for it in steps])):
         word = reply.split()[1]
         step.word = int(word, 8) if word.isdigit() else None
     for step in steps:

@@ -5,10 +5,10 @@ from ..core.errors import ExploreError
 from ..core.register_rows import PLACE, STATE, STATUS
 from ..core.replies import INTERRUPT, MODES, Mode
 from ..core.values import dataclass, field
-from .batches import batches_of
 from .call_steps import CallStep, Known, steps_of
 from .counting import Place
 from .explorer import Explorer
+from .finder import batches_of
 from .levels import NEAR_BYTES, Stacks
 from .routines import Label, Labels
 

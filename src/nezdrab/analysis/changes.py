@@ -16,7 +16,7 @@ from .explorer import Explorer
 from .finder import parts_of
 from .reads import register_writes
 from .search import WORD_OF_DISK, disk_word_of
-from .transfers import Transfer, transfers_in
+from .transfers import DiskMove, transfers_in
 
 MOST_SHOWN, SHOWN_AT_ONCE, MOST_OF_A_RANGE = 256, 16, 4_096
 WORDS = r"<begin:address>\.\.<end:address>|<address:place>( <count:decimal>)?"
@@ -67,7 +67,7 @@ def changes_on_drive(word: DiskWord, turns: range, words: range) -> Iterator[Cha
                 yield from changed_by(word.machine, it, words)
 
 
-def changed_by(machine: Machine, write: Transfer, words: range) -> Iterator[Change]:
+def changed_by(machine: Machine, write: DiskMove, words: range) -> Iterator[Change]:
     """Those of the words that a write of the disk changes: the words before and after its turn."""
     first, last = max(words[0], write.on_drive[0]), min(words[-1], write.on_drive[-1])
     parts = [(at, min(MOST_WORDS, last + 1 - at)) for at in range(first, last + 1, MOST_WORDS)]

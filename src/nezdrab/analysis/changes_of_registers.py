@@ -7,7 +7,7 @@ from ..core.register_changes import WRITTEN_ALONE, RegisterChange, register_chan
 from .accesses import cycle_line, lines_of
 from .crew import stopped_by
 from .explorer import Explorer
-from .finder import with_bar
+from .finder import found_with_bar
 from .listing import turns_in_words
 from .reads import MOST_SHOWN, SHOWN_AT_ONCE, Looked
 
@@ -29,7 +29,7 @@ def register_lines(explorer: Explorer, turns: range, place: int) -> Iterator[str
     name, looked = NAMES_IN_THE_IO_PAGE[place], Looked[RegisterChange](turns)
     if name not in WRITTEN_ALONE:
         shown_at(explorer.machine, name)  # an error if nothing shows it
-    changes = with_bar(register_changes(explorer.machine, turns, place), turns)
+    changes = found_with_bar(register_changes(explorer.machine, turns, place), turns)
     looked.stopped = stopped_by(looked.look(changes))
     shown, more = looked.found[:MOST_SHOWN], looked.found[MOST_SHOWN:]
     what = "was written" if name in WRITTEN_ALONE else "a read gives"

@@ -5,7 +5,7 @@ import sys
 import threading
 import time
 from contextlib import contextmanager
-from typing import ClassVar, Iterable, Iterator, Optional
+from typing import Callable, ClassVar, Iterable, Iterator, Optional, TypeVar
 
 from ..core.errors import ExploreError
 from ..core.interrupts import INTERRUPTS
@@ -49,6 +49,17 @@ class Progress:
             Progress.bars -= 1
             sys.stderr.write("\r" + " " * (WIDTH + 50) + "\r")
             sys.stderr.flush()
+
+
+Part = TypeVar("Part")
+
+
+def with_bar(parts: Iterable[Part], total: int, done: Callable[[Part], int]) -> Iterator[Part]:
+    """Parts of this many turns, with a bar: `done` tells how many are done after a part."""
+    with Progress(total, "turns") as progress:
+        for part in parts:
+            yield part
+            progress.step(done(part) - progress.done)
 
 
 def stopped_by(work: Iterable[object]) -> str:

@@ -4,10 +4,10 @@ from typing import Iterator
 from ..core.extreme_turns import Extremes
 from ..core.hardware import INTERRUPTS
 from ..core.in_words import counted, span
-from .batches import batches_of
 from .command import Arguments, command, turns_before
 from .crew import stopped_by
 from .explorer import Explorer
+from .finder import batches_of
 from .listing import turn_in_words
 
 

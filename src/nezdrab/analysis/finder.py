@@ -6,8 +6,9 @@ from ..core.engine import Machine
 from ..core.places import is_register
 from ..core.register_search import reads_at, writes_at
 from ..core.replies import LastWrite, WordRead
+from ..core.turn_batches import Batch, batches
 from ..core.values import dataclass
-from .crew import Progress
+from .crew import with_bar
 
 TURNS_OF_A_SEARCH = LARGEST_PART  # searched at once, in a tenth of a second or more
 Item = TypeVar("Item")
@@ -17,11 +18,15 @@ Listing = Callable[[range], tuple[list[str], range]]
 
 def parts_of(turns: range) -> Iterator[range]:
     """The turns in parts that are searched at once, with a bar if they take long."""
-    with Progress(len(turns), "turns") as progress:
-        for at in range(turns.start, turns.stop, TURNS_OF_A_SEARCH):
-            part = range(at, min(at + TURNS_OF_A_SEARCH, turns.stop))
-            yield part
-            progress.step(len(part))
+    begins = range(0, len(turns), TURNS_OF_A_SEARCH)
+    parts = (turns[at : at + TURNS_OF_A_SEARCH] for at in begins)
+    return with_bar(parts, len(turns), lambda it: it.stop - turns.start)
+
+
+def batches_of(machine: Machine, turns: range) -> Iterator[Batch]:
+    """All turns, one after the other, in batches with a bar."""
+    found = batches(machine, turns)
+    return with_bar(found, len(turns), lambda it: it.turns.stop - turns.start)
 
 
 def listed_in(turns: range, listing: Listing) -> Iterator[tuple[list[str], int]]:
@@ -33,14 +38,11 @@ def listed_in(turns: range, listing: Listing) -> Iterator[tuple[list[str], int]]
             yield lines, part.start
 
 
-def with_bar(
+def found_with_bar(
     found: Iterable[tuple[list[Item], int]], turns: range
 ) -> Iterator[tuple[list[Item], int]]:
     """What is found in these turns, each part with the turn before which it is all, with a bar."""
-    with Progress(len(turns), "turns") as progress:
-        for items, end in found:
-            yield items, end
-            progress.step(end - turns.start - progress.done)
+    return with_bar(found, len(turns), lambda it: it[1] - turns.start)
 
 
 def growing_parts(
@@ -48,10 +50,11 @@ def growing_parts(
 ) -> Iterator[range]:
     """The turns in parts that double, from the first turn on or from the last one back, with a
     bar."""
-    with Progress(len(turns), "turns") as progress:
-        for part in growing(turns, is_backwards, largest):
-            yield part
-            progress.step(len(part))
+
+    def done(part: range) -> int:
+        return turns.stop - part.start if is_backwards else part.stop - turns.start
+
+    return with_bar(growing(turns, is_backwards, largest), len(turns), done)
 
 
 @dataclass(frozen=True)
@@ -94,7 +97,7 @@ class Finder:
     def writes_of(self, turns: range, address: int) -> Iterator[tuple[list[LastWrite], int]]:
         """The same of a register too, some at a time, and the turn before which these are all."""
         if is_register(address):
-            yield from with_bar(writes_at(self.machine, turns, address), turns)
+            yield from found_with_bar(writes_at(self.machine, turns, address), turns)
             return
         for lines, end in listed_in(turns, lambda it: self.machine.writes(it, address)):
             yield list(map(LastWrite.of_line, lines)), end
@@ -112,7 +115,7 @@ class Finder:
         """The reads of the word in these turns, in their order, of each turn the first: some at a
         time, and the turn before which these are all."""
         if is_register(address):
-            yield from with_bar(reads_at(self.machine, turns, address), turns)
+            yield from found_with_bar(reads_at(self.machine, turns, address), turns)
             return
         for lines, end in listed_in(turns, lambda it: self.machine.reads(it, address)):
             yield list(map(WordRead.of, lines)), end

@@ -4,17 +4,17 @@ from typing import Iterator, Optional, Sequence
 from ..core.engine import LAST_TURN, Machine
 from ..core.errors import ExploreError
 from ..core.in_words import counted
-from ..core.interrupts import INTERRUPTS
 from ..core.past import Event
 from ..core.values import dataclass, field
 from .branches import LOOKED_AT
 from .cells import OUTPUTS, TPB, byte_of_drive, is_core, is_of_drive, name_of, some_of
 from .command import Arguments, command
+from .crew import stopped_by
 from .explorer import Explorer
 from .labels import Brought, Carried, Labels, MovedCell, events_with_data
 from .listing import turns_in_words
 from .operands import Flow, How
-from .transfers import Transfer
+from .transfers import DiskMove
 from .turn_flow import flows_with_bar
 
 FOLLOWED_TURNS, MOST_LINES, FEW_WORDS, MOST_TURNS_SHOWN = 10_000, 60, 4, 8
@@ -104,7 +104,7 @@ class Followed:
 
     # Transfers
 
-    def transfer(self, moved: Transfer, cells: Sequence[MovedCell]) -> None:
+    def transfer(self, moved: DiskMove, cells: Sequence[MovedCell]) -> None:
         words: dict[int, list[MovedCell]] = {}
         for it in cells:
             words.setdefault(it.cell & ~1, []).append(it)
@@ -128,7 +128,7 @@ class Followed:
             first, last = self.name(cells[0]), self.name(cells[-1])
             yield f"each of {len(cells)} words from {first} to {last}", None
 
-    def value_of(self, moved: Transfer, cell: Optional[int]) -> str:
+    def value_of(self, moved: DiskMove, cell: Optional[int]) -> str:
         """The word of a drive after the transfer."""
         if cell is None or moved.is_read:
             return ""
@@ -195,7 +195,7 @@ def had_before(cells: Sequence[MovedCell]) -> bool:
     return any(it.before for it in cells)
 
 
-def source_of(moved: Transfer, cell: Optional[int]) -> str:
+def source_of(moved: DiskMove, cell: Optional[int]) -> str:
     """Where the word comes from that a write of the disk brings."""
     if cell is None:
         return ""
@@ -235,15 +235,8 @@ def follow(explorer: Explorer, arguments: Arguments) -> Iterator[str]:
         raise ExploreError(f"event {event.number} is in turn {event.turn}; N is later")
     followed = Followed(machine, event, Labels(bool(arguments.optional("places"))), end=event.turn)
     yield f"turn {event.turn}: event {event.number}, {event.explained()}"
-    stopped = ""
-    try:
-        for flow in flows_with_bar(machine, range(event.turn, end)):
-            followed.turn(flow)
-    except KeyboardInterrupt:
-        INTERRUPTS.again()
-        stopped = "stopped"
-    except ExploreError as error:
-        stopped = str(error)
+    flows = flows_with_bar(machine, range(event.turn, end))
+    stopped = stopped_by(map(followed.turn, flows))
     yield from followed.lines(explorer)
     if stopped:
         yield f"the turns from {followed.end} on weren't looked at: {stopped}"

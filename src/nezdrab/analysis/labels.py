@@ -5,7 +5,7 @@ from ..core.engine import Machine
 from ..core.values import dataclass, field
 from .cells import OF_THE_DISK, SWITCHES, TKB, word_cells
 from .operands import How, Move
-from .transfers import Transfer
+from .transfers import DiskMove
 
 RESULTS = (How.VALUE, How.COPY)
 ADDRESS_OF_A_TRANSFER = [cell for it in OF_THE_DISK for cell in word_cells(it)]
@@ -77,7 +77,7 @@ class Labels:
         for it in found[begun:]:
             self.put(it.move.cell, it.now)
 
-    def transfer(self, moved: Transfer) -> list[MovedCell]:
+    def transfer(self, moved: DiskMove) -> list[MovedCell]:
         """Carries the labels through a transfer of the disk."""
         more = self.of(ADDRESS_OF_A_TRANSFER) if self.places else 0
         bits = self.bits

@@ -17,12 +17,10 @@ from ..core.values import dataclass, field
 from .command import Arguments, command
 from .crew import Progress
 from .explorer import Explorer
+from .long_work import WorkOptions, job_lines, kept_in, read_files, stopped_work
 from .matters_table import EventRow, table
-from .long_work import job_lines, kept_in, read_files, stopped_work
 from .sought_reply import is_reply, reply_of_turn
-from .sweep import digest_of, in_one_line
-from .sweep_fades import end_of
-from .long_work import WorkOptions
+from .sweep import digest_of, end_of, in_one_line
 
 JOBS = 64
 FORM = "matters [E ..] [within C|near C]: QUESTION [until REPLY]"

@@ -10,7 +10,7 @@ from ..core.replies import Turn
 from ..core.values import dataclass, field
 from .cells import ALL_CODES, KEPT, KSP, MASK, NOTHING, OF_THE_DISK, OUTPUTS
 from .cells import PC as POINT_CELL, PS, REST, USP, Cells, register_cells, word_cells
-from .transfers import Disk, Transfer
+from .transfers import Disk, DiskMove
 from .turn_cycles import KERNEL, RegisterWords, Space
 
 STACK_LIMIT = 0o340
@@ -78,7 +78,7 @@ class Flow:
     turn: int = 0
     act: Turn = IDLE_TURN
     mode: int = 0
-    transfer: Optional[Transfer] = None
+    transfer: Optional[DiskMove] = None
     moves: list[Move] = field(default_factory=list)
     cycles: list[Cycle] = field(default_factory=list)
     place: Optional[int] = None  # of the instruction

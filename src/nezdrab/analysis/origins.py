@@ -9,15 +9,14 @@ from typing import Iterable, Iterator, NamedTuple, Optional, Sequence
 
 from ..core.engine import Machine
 from ..core.errors import ExploreError
-from ..core.interrupts import INTERRUPTS
 from ..core.values import dataclass
 from .cells import INPUTS, KEPT, PC, PRB, byte_of_drive, drive_cell, first_of, is_core, is_of_drive
 from .cells import is_on_bus
-from .crew import Progress
+from .crew import Progress, stopped_by
 from .labels import ADDRESS_OF_A_TRANSFER, events_with_data
 from .last_writes import DISK, LastWrites
 from .operands import Flow
-from .transfers import Transfer, transfers_in
+from .transfers import DiskMove, transfers_in
 from .turn_cycles import Mappings, NotFollowed
 from .turn_flow import Flows
 
@@ -87,7 +86,7 @@ class Origins:
         self.mappings, self.writes = Mappings(), LastWrites(machine)
         self.singles: Counter[int] = Counter()  # turns that were decoded singly, by their block
         self.written: dict[int, dict[int, list[tuple[int, int]]]] = {}
-        self.windows: dict[int, list[Transfer]] = {}
+        self.windows: dict[int, list[DiskMove]] = {}
         self.window = max(WINDOW_TURNS, WINDOW_DELAYS * machine.setup.delays["disk"])
         self.brought: dict[int, list[tuple[int, int]]] = defaultdict(list)
         for event in events_with_data(machine):
@@ -221,14 +220,14 @@ class Origins:
                 return too_far(begun, cell)
         return Origin(OriginKind.START, 0, first_of(cell))
 
-    def transfers(self, number: int) -> list[Transfer]:
+    def transfers(self, number: int) -> list[DiskMove]:
         """The reads and writes of the disk that complete in this window of turns."""
         if number not in self.windows:
             turns = range(number * self.window, min((number + 1) * self.window, self.end))
             self.windows[number] = transfers_in(self.machine, turns)
         return self.windows[number]
 
-    def transfer(self, turn: int) -> Transfer:
+    def transfer(self, turn: int) -> DiskMove:
         """The transfer that completes in this turn."""
         found = [it for it in self.transfers(turn // self.window) if it.turn == turn]
         if not found:
@@ -265,24 +264,24 @@ class Origins:
         inputs: dict[Origin, list[Input]] = {it: [] for it in roots if not it.is_write}
         todo = [(-it.turn, it) for it in roots if it.is_write]
         heapq.heapify(todo)
-        stopped = ""
-        try:
-            with Progress(most, "steps") as progress:
-                while todo and progress.done < most:
-                    _, origin = todo[0]
-                    if origin not in inputs:
-                        self.add(origin, inputs, todo)
-                        progress.step()
-                    else:
-                        heapq.heappop(todo)
-        except KeyboardInterrupt:
-            INTERRUPTS.again()
-            stopped = "stopped"
-        except ExploreError as error:
-            stopped = str(error)
+        stopped = stopped_by(self.added(inputs, todo, most))
         left = frozenset(it for _, it in todo if it not in inputs)
         inputs.update((it, []) for it in left)
         return Graph(roots, inputs, left, stopped)
+
+    def added(
+        self, inputs: dict[Origin, list[Input]], todo: list[tuple[int, Origin]], most: int
+    ) -> Iterator[None]:
+        """Takes in at most this many writes, one at a time."""
+        with Progress(most, "steps") as progress:
+            while todo and progress.done < most:
+                _, origin = todo[0]
+                if origin in inputs:
+                    heapq.heappop(todo)
+                    continue
+                self.add(origin, inputs, todo)
+                progress.step()
+                yield
 
     def add(
         self, origin: Origin, inputs: dict[Origin, list[Input]], todo: list[tuple[int, Origin]]

@@ -7,6 +7,7 @@ from typing import Iterable, Iterator, Optional
 
 from ..core.engine import SHORT_SENT_AHEAD, Machine
 from ..core.errors import ExploreError
+from ..core.hardware import INTERRUPTS, TRAPS
 from ..core.in_words import counted, span
 from ..core.replies import INSTRUCTION, Mode, Registers, turns_of, words_of
 from ..core.symbols import FARTHEST
@@ -22,7 +23,6 @@ EXACT_TURNS = 1_000_000  # that are counted if `whole` isn't said
 SAMPLES = 10_000
 COUNTED_TURNS = 50_000_000  # in all searches that count the entries of sampled routines
 MOST_ROWS = 30
-VECTORS = (0o4, 0o10, 0o14, 0o20, 0o30, 0o34, 0o60, 0o64, 0o70, 0o74, 0o100, 0o220, 0o250)
 NOT_NAMED = "(before the first routine)"
 
 
@@ -169,7 +169,7 @@ def entered(machine: Machine, profile: Profile) -> Iterator[Place]:
         call = call_in(machine, turn)
         if call is not None:
             yield Place(call.inside, call.routine)
-    lines = [f"virtual {profile.turns.stop} kernel {it:o} 2" for it in VECTORS]
+    lines = [f"virtual {profile.turns.stop} kernel {it:o} 2" for it in (*TRAPS, *INTERRUPTS)]
     for reply in machine.read_all(lines):
         if is_read(reply):
             pc, ps = words_of(reply)

@@ -17,8 +17,7 @@ from .crew import Progress, stopped_by
 from .explorer import Explorer
 from .script import event_line
 from .sought_reply import is_reply, question_and_reply, reply_of_turn
-from .sweep import in_one_line
-from .sweep_fades import end_of
+from .sweep import end_of, in_one_line
 
 FORM = "reduce [E ..]: QUESTION [=|!= REPLY]"
 REDUCE = re.compile(r"(?P<events>[0-9]{1,10}([ \t]+[0-9]{1,10})*)?[ \t]*:[ \t]*(?P<asked>.+)")

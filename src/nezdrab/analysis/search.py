@@ -3,6 +3,7 @@ from typing import Iterator, Optional
 
 from ..core.engine import LAST_TURN
 from ..core.errors import ExploreError
+from ..core.hardware import LARGEST_WORD
 from ..core.in_words import span
 from ..core.replies import LastWrite
 from .command import Arguments, command, range_ahead, searched_range
@@ -10,8 +11,6 @@ from .disk_words import DiskWord, change_lines, functions_in_words, last_change
 from .explorer import Explorer
 from .listing import turn_in_words
 from .script import typed_bytes
-
-LARGEST_WORD = 0o177777
 
 
 def word_of(arguments: Arguments, name: str) -> int:

@@ -124,10 +124,6 @@ class ValueSteps:
             step = sources[0].step
         return found
 
-    def operations(self) -> list[ValueStep]:
-        """The steps that aren't copies, the latest last."""
-        return [it for it in self.ordered if not self.is_copy(it)]
-
 
 def is_of(move: Move, step: ValueStep) -> bool:
     return move.instant == step.at and (move.how == How.CODE) == step.is_codes

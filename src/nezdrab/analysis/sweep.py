@@ -5,22 +5,22 @@ from contextlib import closing
 from pathlib import Path
 from typing import Iterator, Optional, Sequence
 
-from ..core import sessions, sweeping
-from ..core.engine import Machine
+from ..core import sessions
+from ..core.asked import last_turn_of
+from ..core.engine import LAST_TURN, Machine
 from ..core.errors import ExploreError
 from ..core.in_words import counted, some_are
 from ..core.language import MOST_DIGITS, SEARCHES, comma_fault, is_decimal, is_edit
-from ..core.past import Event
 from ..core.sessions import words_of
+from ..core.sweeping import Sweep
 from ..core.twins import each_of
 from ..core.values import dataclass, field
 from .command import Arguments, check_turn, command
 from .crew import Progress
 from .explorer import Explorer
-from .long_work import job_lines, kept_in, read_files, stopped_work
+from .fades import fade_of
+from .long_work import WorkOptions, job_lines, kept_in, read_files, stopped_work
 from .script import past_lines
-from .sweep_fades import HEADING, end_of, fades_of, parted, together
-from .long_work import WorkOptions
 
 SWEEP = re.compile(
     r"(?P<fades>--fades )?(?P<event>[0-9]{1,10}|[a-z].*?)"
@@ -29,30 +29,23 @@ SWEEP = re.compile(
 )
 QUESTIONS = SEARCHES | {it.decode() for it in sessions.QUESTIONS}
 JOBS = 64
+WITH_FADES = "# sweep --fades "
+AGAIN = re.compile(r"(.*; the old run again from turn) ([0-9]{1,10}) on", re.DOTALL)
 
 
 @dataclass
-class Sweep:
-    """An event, a new one or one of the script, with what is asked; the turns that it is put at."""
+class LineSweep(Sweep):
+    """The sweep that a line asks for, with the turns at which the event is put."""
 
-    placed: sweeping.Sweep
-    turns: range
+    turns: range = range(0)
     faded_to: Optional[int] = None  # up to where an edit is looked at, with --fades
 
     @property
-    def event(self) -> str:
-        return self.placed.event
-
-    @property
-    def moved(self) -> Optional[Event]:
-        return self.placed.moved
-
-    @property
     def question(self) -> str:
-        return self.placed.lines[0]
+        return self.lines[0]
 
     @classmethod
-    def of(cls, machine: Machine, text: str) -> "Sweep":
+    def of_line(cls, machine: Machine, text: str) -> "LineSweep":
         match = SWEEP.fullmatch(" ".join(words_of(text)))
         if match is None:
             form = "the form is: sweep EVENT|E from N to M [step K]: QUESTION"
@@ -74,16 +67,16 @@ class Sweep:
             raise ExploreError(f"turn {match['last']} comes before turn {match['first']}")
         check_question(question)
         faded_to = end_of(question) if match["fades"] else None
-        return cls(sweeping.Sweep(machine, event, moved, [question]), turns, faded_to)
+        return cls(machine, event, moved, [question], turns=turns, faded_to=faded_to)
 
     def check(self, machine: Machine) -> None:
         """Tries the event and the question, once, on a twin."""
         with closing(machine.twin()) as twin:
-            self.placed.part(twin, [self.turns[0]])
+            self.part(twin, [self.turns[0]])
 
     def row(self, twin: Machine, turn: int) -> str:
         """The reply with the event at this turn, and with --fades where the edit fades."""
-        ((reply,),) = self.placed.part(twin, [turn])
+        ((reply,),) = self.part(twin, [turn])
         if self.faded_to is None:
             return in_one_line(reply)
         word = "at" if self.moved is None else f"alter {self.moved.number}"
@@ -92,8 +85,40 @@ class Sweep:
     def heading(self, machine: Machine) -> str:
         """What results are of: the event, the question and the past. The turns may be others."""
         moved = f" moved from turn {self.moved.turn}" if self.moved else ""
-        heading = "# sweep " if self.faded_to is None else HEADING
+        heading = "# sweep " if self.faded_to is None else WITH_FADES
         return f"{heading}{self.event}{moved}: {self.question}, past {digest_of(machine)}"
+
+
+def end_of(question: str) -> int:
+    """The last turn that a question is about: up to it the program looks whether an edit fades."""
+    turn = last_turn_of(question)
+    if turn is None:
+        raise ExploreError(f"--fades looks up to the question's turn, and '{question}' has none")
+    return min(turn, LAST_TURN)
+
+
+def fades_of(twin: Machine, edit: str, end: int) -> str:
+    """Where an edit of this past fades, to be put behind a reply."""
+    fade = fade_of(twin, edit, end)
+    if fade is None:
+        raise ExploreError(f"{edit}: the program doesn't say whether it fades")
+    if fade.turn is None:
+        return f"; not the old run again before turn {end}"
+    return f"; the old run again from turn {fade.turn} on"
+
+
+def parted(heading: str, reply: str) -> tuple[str, Optional[int]]:
+    """A reply without the turn in which the edit fades, and that turn, if it has one."""
+    match = AGAIN.fullmatch(reply) if heading.startswith(WITH_FADES) else None
+    return (match[1], int(match[2])) if match else (reply, None)
+
+
+def together(reply: str, fades: list[int]) -> str:
+    """The reply that turns have in common, with the turns in which their edits fade."""
+    if not fades:
+        return reply
+    first, last = min(fades), max(fades)
+    return f"{reply} {first} on" if first == last else f"{reply}s {first} to {last} on"
 
 
 def digest_of(machine: Machine) -> str:
@@ -169,7 +194,7 @@ class Results:
         yield f"{counted(len(self.replies), 'turn')}, {counted(len(runs), 'run')} of equal replies"
 
 
-def swept(machine: Machine, sweep: Sweep, results: Results, hands: int) -> Iterator[str]:
+def swept(machine: Machine, sweep: LineSweep, results: Results, hands: int) -> Iterator[str]:
     """The turns that aren't known yet, with their replies, as they come."""
     known = results.replies
     count = sum(1 for it in sweep.turns if it not in known) if known else len(sweep.turns)
@@ -178,7 +203,7 @@ def swept(machine: Machine, sweep: Sweep, results: Results, hands: int) -> Itera
         return
     hands = min(hands, count)
     with Progress(count, "turns") as progress:
-        stride = sweep.placed.stride(sweep.turns[0])
+        stride = sweep.stride(sweep.turns[0])
         for turn, reply in each_of(machine, wanted, sweep.row, hands, stride):
             progress.step()
             results.add(turn, reply)
@@ -186,7 +211,7 @@ def swept(machine: Machine, sweep: Sweep, results: Results, hands: int) -> Itera
 
 
 def sweep_lines(
-    explorer: Explorer, sweep: Sweep, hands: int, path: Optional[Path]
+    explorer: Explorer, sweep: LineSweep, hands: int, path: Optional[Path]
 ) -> Iterator[str]:
     machine = explorer.machine
     results = Results(sweep.heading(machine))
@@ -198,7 +223,7 @@ def sweep_lines(
         yield f"{stopped}: {turns_are} done{kept_in(path)}"
 
 
-def parts_of(machine: Machine, sweep: Sweep) -> Iterator[str]:
+def parts_of(machine: Machine, sweep: LineSweep) -> Iterator[str]:
     """The sweeps of some of its turns each that are the whole sweep together."""
     event = sweep.event
     if sweep.moved:  # the session of the parts numbers its events anew
@@ -245,7 +270,7 @@ def sweep_command(explorer: Explorer, arguments: Arguments) -> Iterator[str]:
         yield from gathered(options.gathered)
         return
     fades = "--fades " if options.has("--fades") else ""
-    sweep = Sweep.of(explorer.machine, fades + options.line(explorer))
+    sweep = LineSweep.of_line(explorer.machine, fades + options.line(explorer))
     options.check(explorer, "sweep", len(sweep.turns), "turns")
     jobs = options.path("--jobs")
     if jobs:
@@ -257,6 +282,6 @@ def sweep_command(explorer: Explorer, arguments: Arguments) -> Iterator[str]:
 
 def raw_lines(explorer: Explorer, text: str) -> Iterator[str]:
     """The sweep of one job: a heading, and each turn with its reply."""
-    sweep = Sweep.of(explorer.machine, text)
+    sweep = LineSweep.of_line(explorer.machine, text)
     yield sweep.heading(explorer.machine)
     yield from swept(explorer.machine, sweep, Results(), 1)

@@ -1,56 +1,26 @@
 """Which functions of the disk were done, by the line `transfers`, and which words they moved."""
-from typing import Iterator, Optional, Sequence
+from typing import Iterable, Iterator, Optional, Sequence
 
 from ..core.engine import Machine
+from ..core.found import Transfer
 from ..core.hardware import SECTOR_WORDS
-from ..core.replies import Devices, DiskFunction
+from ..core.replies import Devices
 from ..core.values import dataclass
 from .cells import drive_cell
 
 ASKED_AT_ONCE = 16
-MOVING = (DiskFunction.READ, DiskFunction.WRITE)
-FUNCTIONS = {it.title.replace(" ", "-"): it for it in DiskFunction}
+MOVING = ("read", "write")
 
 
-@dataclass(frozen=True)
-class DoneFunction:
-    """A function of the disk that was done in the beginning of a turn. `begun` is the turn whose
-    act began it, or None if that was before the turns that were asked about. It moved or compared
-    `count` words, from this word of the drive and this address of core on."""
-
-    turn: int
-    begun: Optional[int]
-    function: DiskFunction
-    drive: int
-    word: int
-    core: int
-    count: int
-    errors: int
-
-    @classmethod
-    def of(cls, line: str) -> "DoneFunction":
-        turn, begun, function, drive, word, core, count, errors = line.split()
-        return cls(
-            int(turn),
-            None if begun == "before" else int(begun),
-            FUNCTIONS[function],
-            int(drive),
-            int(word, 8),
-            int(core, 8),
-            int(count),
-            int(errors, 8),
-        )
-
-
-def functions_done(machine: Machine, turns: range) -> Iterator[DoneFunction]:
+def functions_done(machine: Machine, turns: range) -> Iterator[Transfer]:
     """The functions that were done in these turns, in their order."""
     while turns:
         lines, turns = machine.transfers(turns)
-        yield from map(DoneFunction.of, lines)
+        yield from map(Transfer.of, lines)
 
 
 @dataclass(frozen=True)
-class Transfer:
+class DiskMove:
     """A function of the disk that moves words, by the turn in whose beginning it completes."""
 
     turn: int
@@ -103,31 +73,24 @@ def words_of_core(first: int, count: int, stays: bool) -> range:
 
 
 def with_stays(
-    machine: Machine, found: Sequence[DoneFunction]
-) -> Iterator[tuple[DoneFunction, bool]]:
+    machine: Machine, found: Sequence[Transfer]
+) -> Iterator[tuple[Transfer, bool]]:
     """These functions, which ascend, and whether the bus address of each stayed as it was."""
     for it, reply in zip(found, machine.read_all([f"devices {it.turn}" for it in found])):
         yield it, Devices.of(reply).stays
 
 
-def transfers_in(machine: Machine, turns: range) -> list[Transfer]:
+def transfers_in(machine: Machine, turns: range) -> list[DiskMove]:
     """The reads and writes that were done in these turns."""
-    done = functions_done(machine, turns)
-    return moved_by(machine, [it for it in done if it.function in MOVING])
+    return moved_by(machine, functions_done(machine, turns))
 
 
-def moved_by(machine: Machine, moving: Sequence[DoneFunction]) -> list[Transfer]:
+def moved_by(machine: Machine, done: Iterable[Transfer]) -> list[DiskMove]:
+    """Those of these functions that move words."""
+    pairs = with_stays(machine, [it for it in done if it.function in MOVING])
     return [
-        Transfer(
-            it.turn,
-            it.function == DiskFunction.READ,
-            it.drive,
-            it.word,
-            it.core,
-            it.count,
-            stays,
-        )
-        for it, stays in with_stays(machine, moving)
+        DiskMove(it.turn, it.function == "read", it.drive, it.index, it.address, it.count, stays)
+        for it, stays in pairs
     ]
 
 
@@ -137,24 +100,19 @@ class Disk:
     def __init__(self, machine: Machine):
         self.machine = machine
         self.ends: frozenset[int] = frozenset()
-        self.moved: dict[int, Transfer] = {}
+        self.moved: dict[int, DiskMove] = {}  # by the turns in whose beginning they complete
         self.turns = range(0)
         self.ready: dict[int, bool] = {}  # before which turns it is
 
     def prepare(
-        self, turns: range, done: Optional[Sequence[DoneFunction]] = None, is_ready: bool = False
+        self, turns: range, done: Optional[Sequence[Transfer]] = None, is_ready: bool = False
     ) -> None:
         """Takes what is done in these turns, or asks for it; and whether the disk is known to be
         ready before them."""
         found = list(functions_done(self.machine, turns)) if done is None else done
         self.ends = frozenset(it.turn for it in found)
-        moving = [it for it in found if it.function in MOVING]
-        self.moved = {it.turn: it for it in moved_by(self.machine, moving)}
+        self.moved = {it.turn: it for it in moved_by(self.machine, found)}
         self.turns, self.ready = turns, {turns[0]: True} if is_ready else {}
-
-    def completed(self, turn: int) -> Optional[Transfer]:
-        """What completes in the beginning of this turn, and moves words."""
-        return self.moved.get(turn)
 
     def is_busy(self, turn: int) -> bool:
         """Whether a function is under way in the act of this turn."""

@@ -6,10 +6,11 @@ from typing import Iterator, NamedTuple, Optional, Sequence
 
 from ..core.engine import SHORT_SENT_AHEAD, Machine
 from ..core.errors import ExploreError
+from ..core.found import Transfer
 from ..core.hardware import IO_PAGE, OPERAND_TRAPS
 from ..core.replies import MODES, Devices, Mode, Pages, Turn, listed, turns_of, words_of
 from ..core.values import dataclass, field
-from .transfers import DoneFunction, Transfer
+from .transfers import DiskMove
 
 BLOCK = 0o100  # the bytes of a block, which mapping moves as one
 SR0, RESERVED = 0o777572, 0o10
@@ -17,7 +18,7 @@ REGS = re.compile(
     rb"R0 (\d+) R1 (\d+) R2 (\d+) R3 (\d+) R4 (\d+) R5 (\d+)"
     rb" KSP (\d+) USP (\d+) PC (\d+) PS (\d+) (\w+)"
 )
-REGS_BYTES, PC_AT, PS_AT = 130, 8, 9
+PC_AT, PS_AT = 8, 9
 TURNS_AT_ONCE, FEW_TURNS = 1024, 160
 KERNEL, USER = MODES.index(Mode.KERNEL), MODES.index(Mode.USER)
 MODE_OF_MAPPING = {0o7723: KERNEL, 0o7776: USER}  # by the upper digits of the registers' addresses
@@ -56,7 +57,7 @@ class SeenPart:
     seen: list[Seen]
     blocks: dict[int, Optional[int]]
     is_disk_ready: bool  # before the first turn
-    done: Optional[list[DoneFunction]]
+    done: Optional[list[Transfer]]
     words: dict[int, int] = field(default_factory=dict)
 
     def code(self) -> dict[int, tuple[int, int]]:
@@ -118,9 +119,8 @@ def asked_of(
     """The registers before these turns, and the replies to the lines, asked together if the turns
     are few."""
     if len(turns) > FEW_TURNS:
-        blocks = machine.ascending([b"regs %d" % it for it in turns], REGS_BYTES)
-        found = [row for block in blocks for row in rows_in(block)]
-        return found, list(machine.read_all(lines, SHORT_SENT_AHEAD))
+        found = rows_in(b"\n".join(machine.rows([b"regs %d" % it for it in turns])))
+        return list(found), list(machine.read_all(lines, SHORT_SENT_AHEAD))
     asked = [*(f"regs {it}" for it in turns), *lines]
     replies = list(machine.read_all(asked, SHORT_SENT_AHEAD))
     rows = "\n".join(replies[: len(turns)])
@@ -146,7 +146,7 @@ def seen_part(
     acts = (act for reply in trails for act in turns_of(reply))
     seen = [Seen(*it) for it in zip(acts, registers, registers[1:])]
     is_known = is_all and (is_ready or len(turns) > 1)
-    functions = list(map(DoneFunction.of, done)) if is_known else None
+    functions = list(map(Transfer.of, done)) if is_known else None
     return SeenPart(turns, seen, mappings.of(pages), is_ready, functions)
 
 
@@ -157,7 +157,7 @@ class Space:
 
     machine: Machine
     turn: int = 0
-    transfer: Optional[Transfer] = None
+    transfer: Optional[DiskMove] = None
     known: dict[int, int] = field(default_factory=dict)
     blocks: dict[int, Optional[int]] = field(default_factory=dict)
     stored: list[int] = field(default_factory=list)
@@ -166,7 +166,7 @@ class Space:
     def __post_init__(self) -> None:
         self.top = self.machine.setup.core_end
 
-    def begin(self, turn: int, transfer: Optional[Transfer]) -> None:
+    def begin(self, turn: int, transfer: Optional[DiskMove]) -> None:
         """The turn begins with this transfer, if any. What the turn before it wrote is forgotten,
         not earlier: words are asked before the turn."""
         for address in self.stored:

@@ -8,11 +8,11 @@ from ..core.hardware import OPERAND_TRAPS
 from ..core.replies import INSTRUCTION
 from .cells import ALL_CODES, C, KSP, MASK, N, NAMES, NOTHING, OF_THE_DISK, REST, USP, Cells
 from .cells import register_cells, word_cells
-from .crew import Progress
+from .crew import with_bar
 from .made_of import EXTENDED, KEPT, MOVED, XOR, MadeRow, made_of, plan_of
 from .operands import POINT, STACK_LIMIT, WHOLE_PS, Access, BelowTheLimit, Flow, How, Operand
 from .operands import Operands, Stopped, pointer_of
-from .transfers import Transfer
+from .transfers import DiskMove
 from .turn_cycles import KERNEL, RESERVED, TURNS_AT_ONCE, USER, Mappings, NotFollowed, Seen
 from .turn_cycles import parts_of, trap_of
 
@@ -24,16 +24,9 @@ OLD_N: Cells = (N,)
 TRAPPING_WORDS = {0o3: 0o14, 0o4: 0o20}
 
 
-TURNS_OF_A_STEP = 512
-
-
 def flows_with_bar(machine: Machine, turns: range) -> Iterator[Flow]:
     """The flows of these turns, with a bar."""
-    with Progress(len(turns), "turns") as progress:
-        for flow in Flows(machine, turns):
-            yield flow
-            if flow.turn % TURNS_OF_A_STEP == 0:
-                progress.step(TURNS_OF_A_STEP)
+    return with_bar(Flows(machine, turns), len(turns), lambda it: it.turn + 1 - turns.start)
 
 
 def groups_of(parts: Iterable[range]) -> Iterator[list[range]]:
@@ -66,11 +59,11 @@ class Flows(Operands):
                 self.disk.prepare(part.turns, part.done, part.is_disk_ready)
                 self.space.start(part)
                 for seen in part.seen:
-                    transfer = self.disk.completed(seen.act.turn)
+                    transfer = self.disk.moved.get(seen.act.turn)
                     self.space.begin(seen.act.turn, transfer)
                     yield self.flow(seen, transfer)
 
-    def flow(self, seen: Seen, transfer: Optional[Transfer]) -> Flow:
+    def flow(self, seen: Seen, transfer: Optional[DiskMove]) -> Flow:
         """The turn is walked as if no operand trapped. Whether one did is asked only if the
         registers after it don't show that none did."""
         blocks = self.space.blocks
@@ -90,7 +83,7 @@ class Flows(Operands):
         self.check()
         return self.flowing
 
-    def walk(self, seen: Seen, transfer: Optional[Transfer], vector: Optional[int]) -> None:
+    def walk(self, seen: Seen, transfer: Optional[DiskMove], vector: Optional[int]) -> None:
         self.registers, self.after = list(seen.before.words), seen.after
         self.pc, self.vector = seen.before.pc, vector
         self.mode, self.previous = seen.before.ps >> 14, seen.before.ps >> 12 & 3

@@ -23,7 +23,6 @@ MOST_TURNS_OF_A_TRAIL = 64
 MOST_WORDS = 256
 # How many lines are sent before their replies are looked at: those with long replies, and others.
 SENT_AHEAD, SHORT_SENT_AHEAD = 16, 1000
-BLOCK_BYTES, WORD_BYTES, TURNS_AT_ONCE = 50_000, 16, 400
 UNDO, REDO = "undo", "redo"  # the lines that take the last edit back, and make it again
 OF_EVENTS = ("at", "alter", "drop")  # the edits that change the events alone
 Item = TypeVar("Item")
@@ -45,13 +44,6 @@ class Refused(ExploreError):
 
 def in_parts(items: Sequence[Item], size: int) -> Iterator[Sequence[Item]]:
     return (items[at : at + size] for at in range(0, len(items), size))
-
-
-def check_block(line: str, block: bytes) -> None:
-    """An error if one of the replies to lines such as this one is a refusal."""
-    refusal = block.find(b"refused ")
-    if refusal >= 0:
-        raise Refused(line, block[refusal:].splitlines()[0].decode("ascii"))
 
 
 @dataclass(frozen=True)
@@ -113,10 +105,6 @@ class Machine:
         if self._running is None:
             self._running = self._started()
         return self._running
-
-    @property
-    def program(self) -> Program:
-        return self.begin()
 
     def _started(self) -> Program:
         program: Optional[Program] = None
@@ -256,41 +244,28 @@ class Machine:
             self.asked.note(it for it, reply in zip(lines, replies) if not is_refused(reply))
             yield from replies
 
-    def blocks(self, lines: Sequence[str], reply_bytes: int) -> Iterator[bytes]:
-        """The replies to many questions of one kind as bytes, some at a time: for searches, which
-        look for few of them. A reply is one line of some `reply_bytes` bytes. None may be
-        refused."""
+    def rows(self, lines: Sequence[bytes]) -> Iterator[bytes]:
+        """The replies to many questions, unread, of one line each. The questions are of one kind,
+        about turns that ascend, and are sent as they are. None may be refused."""
         with self._started_again():
-            for part in in_parts(lines, max(1, BLOCK_BYTES // reply_bytes)):
+            for part in in_parts(lines, SHORT_SENT_AHEAD):
                 block = self.limited().block(part)
-                check_block(part[0], block)
-                self.asked.note(part)
-                yield block
+                first, last = part[0].decode(), part[-1].decode()
+                refusal = block.find(b"refused ")
+                if refusal >= 0:
+                    raise Refused(first, block[refusal:].splitlines()[0].decode("ascii"))
+                self.asked.note([first, last])
+                yield from block.splitlines()
 
-    def of_each_turn(self, word: str, turns: range) -> Iterator[list[bytes]]:
-        """The replies to a line, such as `regs 5`, for each of these turns, some at a time. None
-        may be refused."""
-        with self._started_again():
-            for part in in_parts(turns, TURNS_AT_ONCE):
-                block = self.limited().block_of([f"{word} {it}".encode() for it in part])
-                check_block(word, block)
-                self.asked.note([f"{word} {part[0]}", f"{word} {part[-1]}"])
-                yield block.splitlines()
+    def of_each_turn(self, word: str, turns: range) -> Iterator[bytes]:
+        """The replies to a line, such as `regs 5`, for each of these turns, as `rows` has them."""
+        return self.rows([f"{word} {it}".encode() for it in turns])
 
     def limited(self) -> Program:
         """The program, with the time that its replies may take from here on."""
         program = self.begin()
         program.seconds = self.seconds
         return program
-
-    def ascending(self, lines: Sequence[bytes], reply_bytes: int) -> Iterator[bytes]:
-        """As `blocks`, of plain questions about turns that ascend."""
-        with self._started_again():
-            for part in in_parts(lines, max(1, BLOCK_BYTES // reply_bytes)):
-                block = self.program.block_of(part)
-                check_block(part[0].decode(), block)
-                self.asked.note([part[0].decode(), part[-1].decode()])
-                yield block
 
     @contextmanager
     def _started_again(self) -> Iterator[None]:
@@ -388,8 +363,7 @@ class Machine:
 
     def single_words(self, lines: Sequence[str]) -> Iterator[int]:
         """The word of the reply to each of these lines of `mem` or `dsk`, which ask for one."""
-        for block in self.blocks(lines, WORD_BYTES):
-            yield from (int(it[4:], 8) for it in block.splitlines())
+        return (int(it[4:], 8) for it in self.rows([it.encode() for it in lines]))
 
     def named(self, drive: int) -> str:
         """What a line says before the number of a word of this drive."""

@@ -1,6 +1,8 @@
 """The numbers and names of the machine: the drives of the RK11, the vectors of the devices and
 their delays."""
 
+LARGEST_WORD = 0o177777
+
 # A drive of the RK11: its cylinders, the surfaces of each, the sectors on each of these, and the
 # words of one.
 CYLINDERS, SURFACES, SECTORS, SECTOR_WORDS = 203, 2, 12, 256
@@ -15,7 +17,16 @@ INTERRUPTS = {
     0o100: "clock",
     0o220: "disk",
 }
-# The vectors of the traps that the word of an instruction alone doesn't tell.
+# The vectors of traps, and those of them that the word of an instruction alone doesn't tell.
+TRAPS = {
+    0o4: "odd address, no memory, stack limit",
+    0o10: "reserved instruction",
+    0o14: "BPT and T bit",
+    0o20: "IOT",
+    0o30: "EMT",
+    0o34: "TRAP",
+    0o250: "memory management",
+}
 OPERAND_TRAPS = (0o4, 0o10, 0o250)
 # How many turns an operation of a device takes, and the period of the clock, if no `delay` says so.
 DELAYS = {"printer": 1, "reader": 4, "punch": 4, "disk": 10, "clock": 0}

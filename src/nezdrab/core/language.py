@@ -75,6 +75,7 @@ FINDING = [it for it in sessions.SEARCHES if it.kind != sessions.STEP]
 STEPS = frozenset(word_of(it) for it in sessions.SEARCHES) - {word_of(it) for it in FINDING}
 LISTS = {it.form: it.summary for it in FINDING if " " not in it.form}
 SEARCHES = frozenset(word_of(it) for it in FINDING) - LISTS.keys()
+OF_LANGUAGE = frozenset((*FORMS, *SEARCHES, *LISTS))  # the words that its lines begin with
 EDITS = frozenset(it.decode() for it in sessions.EDITS)
 FADING = (*PATCHES, "at", "alter", "drop")  # the edits that the line `fades` takes
 EVENTS, MEANINGS = sessions.EVENTS, sessions.REFUSALS_OF_SEARCH

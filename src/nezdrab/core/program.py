@@ -159,12 +159,8 @@ class Program(Child):
         found = iter(taken.found)
         return [it or next(found).decode("ascii", "backslashreplace") for it in refusals]
 
-    def block(self, lines: Sequence[str]) -> bytes:
-        """The replies to these lines as they come, unread. Each has one line."""
-        return self.block_of([encoded(it) for it in lines])
-
-    def block_of(self, sent: Sequence[bytes]) -> bytes:
-        """The replies to lines that can be sent as they are. Each has one line."""
+    def block(self, sent: Sequence[bytes]) -> bytes:
+        """The replies, unread, to lines that can be sent as they are. Each has one line."""
         data = bytearray()
         ends = 0
 

@@ -48,7 +48,7 @@ def register_changes(
     turns = range(turns.start, min(turns.stop, LAST_TURN))
     for at in range(turns.start, turns.stop, TURNS_OF_A_PART):
         asked = range(at, min(at + TURNS_OF_A_PART, turns.stop) + 1)
-        words = [row[part] for block in machine.of_each_turn(line, asked) for row in block]
+        words = [row[part] for row in machine.of_each_turn(line, asked)]
         found = (it for it in zip(asked, words, words[1:]) if it[1] != it[2])
         yield [RegisterChange(it, int(one, 8), int(two, 8)) for it, one, two in found], asked[-1]
 

@@ -143,7 +143,7 @@ class Part:
     def __init__(self, machine: Machine, turns: range, places: frozenset[int]):
         self.machine, self.turns, self.places = machine, turns, places
         self.top = machine.setup.core_end
-        self.rows = [row for block in machine.of_each_turn("regs", turns) for row in block]
+        self.rows = list(machine.of_each_turn("regs", turns))
         self.words: dict[int, Optional[int]] = {}  # by their places
         self.mappings: dict[int, Mapping] = {}  # before turns
         self.suspects: dict[int, bool] = {}

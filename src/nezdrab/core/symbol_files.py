@@ -3,10 +3,10 @@ the linkers of RT-11 and RSX-11."""
 import re
 from typing import Callable, Iterator, Optional, Sequence
 
+from .hardware import LARGEST_WORD
 from .in_words import counted
 from .values import dataclass, replace
 
-LARGEST = 0o177777
 NAME = r"[A-Za-z_.$~%?@][^\s=:;,()\[\]<>]*"
 NAME_OF_DEC = r"[A-Za-z$.][A-Za-z0-9$._]*"
 
@@ -87,7 +87,7 @@ def of_list(lines: Sequence[str]) -> SymbolFile:
     bare = (re.split(r"[#;]", it, maxsplit=1)[0].strip() for it in lines)
     meant = [it for it in bare if it and not UNDEFINED_OF_NM.fullmatch(it)]
     found = [symbol_of(it) for it in meant]
-    symbols = [it for it in found if it is not None and it.value <= LARGEST]
+    symbols = [it for it in found if it is not None and it.value <= LARGEST_WORD]
     return SymbolFile("", symbols, len(found) - len(symbols))
 
 

@@ -20,10 +20,6 @@ class Batch:
     others: dict[int, Turn]
 
 
-def registers_of(machine: Machine, turns: range) -> list[bytes]:
-    return [reply for block in machine.of_each_turn("regs", turns) for reply in block]
-
-
 def others_of(machine: Machine, turns: range) -> dict[int, Turn]:
     """The turns that begin no instruction."""
     replies = machine.read_all(machine.trail_lines(turns.start, len(turns)))
@@ -35,5 +31,5 @@ def batches(machine: Machine, turns: range) -> Iterator[Batch]:
     """The turns in batches."""
     for at in range(turns.start, turns.stop, TURNS_OF_A_BATCH):
         part = range(at, min(at + TURNS_OF_A_BATCH, turns.stop))
-        registers = registers_of(machine, range(part.start, part.stop + 1))
+        registers = list(machine.of_each_turn("regs", range(part.start, part.stop + 1)))
         yield Batch(part, registers, others_of(machine, part))

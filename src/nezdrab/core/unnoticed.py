@@ -36,8 +36,8 @@ def may_interrupt(registers: bytes) -> bool:
 def unnoticed(machine: Machine, turns: range) -> frozenset[int]:
     """Those of these turns that don't notice a key. The machine has the past without it."""
     found = {it.turn.turn for it in machine.accesses_of(turns) if not asks_keyboard(it)}
-    rows = (row for block in machine.of_each_turn("regs", turns) for row in block)
-    asked = [turn for turn, row in zip(turns, rows) if turn in found and may_interrupt(row)]
+    rows = zip(turns, machine.of_each_turn("regs", turns))
+    asked = [turn for turn, row in rows if turn in found and may_interrupt(row)]
     replies = machine.read_all([f"devices {it}" for it in asked], SHORT_SENT_AHEAD)
     pairs = zip(asked, map(Devices.of, replies))
     return frozenset(found) - {turn for turn, it in pairs if it["TKS"] & ENABLE}

@@ -1,15 +1,14 @@
 """What is typed in an editor: lines of explore in the debug console, and expressions."""
 import re
-from typing import Callable, Container, Iterable, Iterator, Optional
+from typing import Callable, Iterable, Iterator, Optional
 
 from ..analysis.explorer import Explorer
 from ..core import sessions
 from ..core.errors import ExploreError, LineRefused
 from ..core.expressions import Before
-from ..core.language import FORMS, LISTS, SEARCHES
 from ..core.values import dataclass
-from ..shell.commands import COMMANDS, ENDS
-from ..shell.completion import HELP, completions
+from ..shell.commands import WORDS
+from ..shell.completion import completions
 from ..shell.display import check_only_shows, lines_at
 from ..shell.output import LINES
 from ..shell.prompt import BLANKS, Prompt
@@ -56,8 +55,7 @@ def before(explorer: Explorer, turn: int) -> Before:
 def is_line(explorer: Explorer, line: str) -> bool:
     """Whether a line is one of explore's prompt by its first word."""
     word = sessions.first_word(line).rstrip("!")
-    known: list[Container[str]] = [COMMANDS, FORMS, SEARCHES, LISTS, HELP, ENDS]
-    return word in explorer.definitions.lines or any(word in it for it in known)
+    return word in explorer.definitions.lines or word in WORDS
 
 
 def watched(explorer: Explorer, expression: str, turn: int) -> Object:

@@ -8,7 +8,7 @@ from ..analysis.breakpoints import Breakpoint
 from ..analysis.explorer import Explorer
 from ..core.errors import ExploreError
 from ..core.expressions import Before
-from ..core.hardware import INTERRUPTS
+from ..core.hardware import INTERRUPTS, TRAPS
 from ..core.places import register_of
 from ..core.replies import SPACES, Mode
 from ..core.values import dataclass, field, replace
@@ -18,15 +18,6 @@ from .wire import Fields, Object
 
 LINES, FUNCTIONS, INSTRUCTIONS = "breakpoint", "function breakpoint", "instruction breakpoint"
 DATA, VECTORS = "data breakpoint", "exception"  # groups are named by the reasons of a stop
-TRAPS = {
-    0o4: "odd address, no memory, stack limit",
-    0o10: "reserved instruction",
-    0o14: "BPT and T bit",
-    0o20: "IOT",
-    0o30: "EMT",
-    0o34: "TRAP",
-    0o250: "memory management",
-}
 # Of each kind of access the breakpoints that it takes: whether each is at reads.
 ACCESSES = {"write": (False,), "read": (True,), "readWrite": (False, True)}
 NAMED = re.compile(r"(?:(user|kernel)[ \t]+)?(.*)", re.DOTALL)

@@ -1,11 +1,11 @@
 """A range of turns as a value change dump, the file of GTKWave and other viewers of waves."""
 from typing import Iterable, Iterator, Optional, Sequence
 
-from ..analysis.batches import batches_of
 from ..analysis.explorer import Explorer
-from ..analysis.finder import Finder
+from ..analysis.finder import Finder, batches_of
 from ..analysis.routines import Labels
 from ..core.engine import Machine
+from ..core.hardware import TRAPS
 from ..core.in_words import span
 from ..core.register_rows import GENERAL, KSP, PC, PLACE, PS, STATE, USP
 from ..core.replies import DISK_READY, DiskFunction, Mode, Registers, Turn
@@ -15,7 +15,6 @@ from ..core.values import dataclass
 # The registers that are shown, each with its part of a reply of `regs`.
 REGISTERS = {"PC": PC, "PS": PS, "KSP": KSP, "USP": USP}
 REGISTERS.update({f"R{number}": part for number, part in enumerate(GENERAL)})
-TRAPS = (0o4, 0o10, 0o14, 0o20, 0o30, 0o34, 0o250)
 NOTHING = "-"
 TIMESCALE = "1 s"  # the only unit of a dump that viewers turn into no other one
 RKCS = b"RKCS "
@@ -76,16 +75,16 @@ def trapped(machine: Machine, turns: range) -> dict[int, int]:
 def disk_states(machine: Machine, turns: range) -> Iterator[tuple[str, str]]:
     """Before each of the turns whether the disk is busy, and with which function."""
     known: dict[bytes, tuple[str, str]] = {}
-    for block in machine.of_each_turn("devices", turns):
-        at = block[0].index(RKCS) + len(RKCS)  # each register has six digits
-        for reply in block:
-            digits = reply[at : at + 6]
-            if digits not in known:
-                status = int(digits, 8)
-                is_busy = not status & DISK_READY
-                function = DiskFunction(status >> 1 & 7).title
-                known[digits] = str(int(is_busy)), function if is_busy else NOTHING
-            yield known[digits]
+    at = 0
+    for reply in machine.of_each_turn("devices", turns):
+        at = at or reply.index(RKCS) + len(RKCS)  # each register has six digits
+        digits = reply[at : at + 6]
+        if digits not in known:
+            status = int(digits, 8)
+            is_busy = not status & DISK_READY
+            function = DiskFunction(status >> 1 & 7).title
+            known[digits] = str(int(is_busy)), function if is_busy else NOTHING
+        yield known[digits]
 
 
 Changes = dict[int, list[tuple[int, int]]]

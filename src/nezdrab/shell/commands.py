@@ -4,7 +4,9 @@ from importlib import import_module
 from typing import Iterator
 
 from ..analysis.command import READ, Command
+from ..core.language import OF_LANGUAGE
 
+HELP = ("help", "?")
 ENDS = frozenset(("quit", "q", "exit"))  # the words that end explore
 # Which module has which commands, in the order in which the manual page shows them.
 MODULES = {
@@ -57,3 +59,4 @@ class Commands(MutableMapping[str, Command]):
 
 
 COMMANDS = Commands()
+WORDS = frozenset((*HELP, *ENDS, *COMMANDS, *OF_LANGUAGE))  # that lines begin with

@@ -6,14 +6,12 @@ from ..analysis.command import Command
 from ..analysis.explorer import Explorer
 from ..analysis.quotes import begun_word, in_quotes, is_plain
 from ..core import sessions
-from ..core.language import FORMS, LISTS, SEARCHES
 from ..core.replies import Mode
 from ..core.symbols import AN_ADDRESS, MODES, forms_of
-from .commands import COMMANDS, ENDS
+from .commands import COMMANDS, HELP, WORDS
 from .mapped import MAPPED_WORDS
 from .topics import LINES, TOPICS
 
-HELP = ("help", "?")
 # A word that may be an address or a file, and what may follow it in a line.
 PROBE = "PROBE"
 FURTHER = ("", " 1", " = 1", " at 1", " CLC")
@@ -41,7 +39,7 @@ def line_begun(words: list[str]) -> list[str]:
 def words_from(explorer: Explorer, text: str, is_help: bool = False) -> list[str]:
     """The commands and lines that begin so, for help the topics too. After the only one comes a
     space."""
-    there = {*COMMANDS, HELP[0], *ENDS, *FORMS, *SEARCHES, *LISTS, *explorer.definitions.lines}
+    there = {*WORDS, *explorer.definitions.lines} - {HELP[1]}
     topics = {*TOPICS, *LINES} if is_help else set()
     found = [it for it in there | topics if it.startswith(text)]
     return sorted(found) if len(found) > 1 else [f"{it} " for it in found]

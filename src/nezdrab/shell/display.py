@@ -7,8 +7,8 @@ from ..analysis.command import Arguments, command
 from ..analysis.explorer import PLACE, TURN, Explorer
 from ..core import sessions
 from ..core.errors import ExploreError, LineRefused
-from ..core.language import FORMS, LISTS, SEARCHES, is_edit
-from .commands import COMMANDS, ENDS
+from ..core.language import OF_LANGUAGE, is_edit
+from .commands import COMMANDS, WORDS
 from .topics import only_shows
 
 NONE_SET = "no line is displayed: display LINE adds one"
@@ -17,7 +17,7 @@ NONE_SET = "no line is displayed: display LINE adds one"
 def check_only_shows(line: str) -> None:
     """An error if a line isn't one that only shows or finds something."""
     word = sessions.first_word(line)
-    is_known = word in COMMANDS or word in FORMS or word in SEARCHES or word in LISTS
+    is_known = word in COMMANDS or word in OF_LANGUAGE
     is_shown = word not in COMMANDS or only_shows(word)
     if not is_known or is_edit(line) or not is_shown:
         raise ExploreError(f"'{word}' can't be displayed: a LINE shows or finds something")
@@ -90,11 +90,6 @@ def undisplay(explorer: Explorer, arguments: Arguments) -> Iterator[str]:
 NAME = r"[A-Za-z][A-Za-z0-9_.-]{0,63}"
 
 
-def is_word_of_explore(word: str) -> bool:
-    """Whether lines begin with this word already."""
-    return word in {"help", *ENDS, *COMMANDS, *FORMS, *SEARCHES, *LISTS}
-
-
 def definition_line(name: str, line: str) -> str:
     return f"define {name} {line}"
 
@@ -110,7 +105,7 @@ def define(explorer: Explorer, arguments: Arguments) -> Iterator[str]:
     name, line = arguments.text("name"), arguments.text("line")
     if re.fullmatch(NAME, name) is None:
         raise ExploreError(f"'{name}' is no NAME: a letter, then letters, digits, _ . -, up to 64")
-    if is_word_of_explore(name):
+    if name in WORDS:
         raise ExploreError(f"{name} is a command already; help {name} says what it does")
     if line.startswith("#"):
         raise ExploreError("LINE is a comment")

@@ -5,7 +5,7 @@ from typing import Optional
 from ..analysis.command import check_turn
 from ..analysis.explorer import Explorer
 from ..core.errors import ExploreError
-from ..core.hardware import IO_PAGE, IO_PAGE_OF_PROGRAMS, NAMES_IN_THE_IO_PAGE
+from ..core.hardware import IO_PAGE, IO_PAGE_OF_PROGRAMS, LARGEST_WORD, NAMES_IN_THE_IO_PAGE
 from ..core.replies import Mode
 from ..core.symbols import ADDRESS
 
@@ -25,7 +25,6 @@ WORD_LINE = (
     r"((?P<mode>kernel|user)[ \t]+(?!(from|to)[ \t]))?"
     rf"(?P<address>{ADDRESS})(?P<after>(?![^\s=]).*)"
 )
-LARGEST = 0o177777
 
 
 def turn_of(explorer: Explorer, found: "re.Match[str]") -> int:
@@ -50,8 +49,8 @@ def in_core(explorer: Explorer, line: str) -> Optional[tuple[str, str]]:
         return (line, said) if said else None
     mode, turn = found["mode"], turn_of(explorer, found)
     address = explorer.symbols.number(found["address"], Mode(mode))
-    if address > LARGEST:
-        raise ExploreError(f"{address:o} is more than a virtual address, {LARGEST:o}")
+    if address > LARGEST_WORD:
+        raise ExploreError(f"{address:o} is more than a virtual address, {LARGEST_WORD:o}")
     place, *why = explorer.machine.read(f"translate {turn} {mode} {address:o}").split()[1:]
     name = f"{mode} {address:06o}"
     if why:
@@ -67,7 +66,7 @@ def beside_register(explorer: Explorer, text: str) -> str:
     except ExploreError:
         return ""
     machine, turn = explorer.machine, explorer.turn
-    is_near = IO_PAGE_OF_PROGRAMS <= address <= LARGEST
+    is_near = IO_PAGE_OF_PROGRAMS <= address <= LARGEST_WORD
     if not is_near or address >= machine.setup.core_end:
         return ""
     modes = machine.registers(turn).mode, Mode.KERNEL

@@ -16,11 +16,11 @@ from ..core.errors import ExploreError, LineRefused
 from ..core.in_words import counted
 from ..core.interrupts import INTERRUPTS, typed_line
 from ..core.journal import state_folder
-from ..core.language import FADING, FORMS, LISTS, SEARCHES, SUMMARIES, explanation, form_of
-from ..core.language import forms_of_searches, is_decimal, is_edit
+from ..core.language import FADING, FORMS, LISTS, OF_LANGUAGE, SEARCHES, SUMMARIES, explanation
+from ..core.language import form_of, forms_of_searches, is_decimal, is_edit
 from ..core.written_files import OUTPUT
-from .commands import COMMANDS, ENDS
-from .completion import HELP, completions
+from .commands import COMMANDS, ENDS, HELP
+from .completion import completions
 from .display import definition_line, displays_after_move
 from .foreign import Value, led_on, line_of, names_register, sentence
 from .mapped import MAPPED_HELP, MAPPED_WORDS, in_core
@@ -272,7 +272,7 @@ class Prompt(Interpreter):
             self.done = name = word.rstrip("!")
             OUTPUT.way, OUTPUT.overwrites = f"{name}!", word != name
             yield from COMMANDS[name].lines(self.explorer, rest)
-        elif not is_of_language(word) and sentence(word, rest):
+        elif word not in OF_LANGUAGE and sentence(word, rest):
             yield from self.lines_of_other(sentence(word, rest), rest, not rest or "/" in word)
         else:
             yield from self.pass_on(line)
@@ -291,7 +291,7 @@ class Prompt(Interpreter):
         form = COMMANDS[word.rstrip("!")].pattern if is_own(word, rest) else None
         has_form = form is not None and form.fullmatch(rest.strip(BLANKS)) is not None
         is_ours = has_form and not names_register(self.explorer, word, rest)
-        return "" if is_of_language(word) or is_ours else led_on(self.explorer, word, rest)
+        return "" if word in OF_LANGUAGE or is_ours else led_on(self.explorer, word, rest)
 
     def is_instruction(self, word: str, rest: str) -> bool:
         if word != "core":
@@ -374,10 +374,6 @@ class Prompt(Interpreter):
         lines = [f"  {it:<{TOPIC_WIDTH}}  {title}" for it, title in titles.items()]
         own = [f"  {form}: {said}" for form, said in OWN_HELP.values()]
         return ["help TOPIC has the lines of a topic, help WORD what a line does:", *lines, *own]
-
-
-def is_of_language(word: str) -> bool:
-    return word in FORMS or word in SEARCHES or word in LISTS
 
 
 def is_own(word: str, rest: str) -> bool:

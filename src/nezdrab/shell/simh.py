@@ -9,6 +9,7 @@ from ..analysis.command import Arguments, command
 from ..analysis.explorer import Explorer
 from ..analysis.restart import make
 from ..core.errors import ExploreError
+from ..core.hardware import LARGEST_WORD
 from ..core.in_words import counted
 from ..core.kinds import check_known, content
 from ..core.options import MOST_UNITS, fault_of_option
@@ -18,7 +19,6 @@ from .simh_lines import Line, Lines, Unusable
 
 MOST_BYTES = 1_048_576  # of a command file
 MOST_KILOBYTES, LEAST_KILOBYTES, UNIT_KILOBYTES = 256, 8, 8
-LARGEST_WORD = 0o177777
 BOOTSTRAP = 0o2000
 LONGEST_SHOWN, MOST_SHOWN = 60, 100  # characters of a line, and lines that weren't taken
 # What a command may be cut to, and its whole name.
