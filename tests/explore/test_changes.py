@@ -115,7 +115,7 @@ class Changes(OfSystems):
                 for address in range(begin, end + 1, 2)
                 for turn, _, word in self.writes_of(machine, turns, address)
             )
-            written = self.explore(f"writes {where}\n", *words)
+            written = self.explore(f"writers {where}\n", *words)
             cut = self.rows(written)
             self.assertEqual(cut, writes[: len(cut)])
             on = written.rpartition("; on: ")[2]
@@ -173,8 +173,8 @@ class Changes(OfSystems):
             ("changes 5..3", "changes: a range has 1 to 4096 words, and this one has 0"),
             ("changes disk 0..10000", "a range has 1 to 4096 words, and this one has 4097"),
             ("changes 757776 2", "refused 2 OutsideCore"),
-            ("writes", "writes: the form is: writes A[..B] [from N] [to M]"),
-            ("writes 1..3", "refused 3 OddAddress"),
+            ("writers", "writers: the form is: writers A[..B] [from N] [to M]"),
+            ("writers 1..3", "refused 3 OddAddress"),
         )
         written = self.explore("".join(f"{it}\n" for it, _ in refused)).splitlines()
         for line, (_, said) in zip(written, refused):

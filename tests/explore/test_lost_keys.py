@@ -145,7 +145,7 @@ class InAnEditor(OnMachine):
         for line, said in (
             ("lost keys", "27 keys in the turns 0 to 1228613: 0 lost, 27 read"),
             ("changes 30000..30002 to 20000", "2 changes in the turns 0 to 20000; "),
-            ("writes 30000 to 20000", "2 writes in the turns 0 to 20000"),
+            ("writers 30000 to 20000", "2 writes in the turns 0 to 20000"),
             ("matters 14 within 9: regs 126900 until R0 1 ..", "; the nearest change found: none"),
             ("reduce : dsk 20000 0 1 = 102", "1 event of 2 left after 3 tries; gone: 1\n"),
             ("compare at 5", "no word of core or of a drive differs"),

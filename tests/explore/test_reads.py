@@ -290,7 +290,7 @@ class Shown(OnMachine):
 
     def test_a_list_that_is_cut_goes_on(self) -> None:
         explorer = self.explorer("ledger/ledger.session")
-        turns, line = list[str](), "reads 1110 from 0 to 14000"
+        turns, line = list[str](), "readers 1110 from 0 to 14000"
         while line:
             *shown, last = self.lines(explorer, line)
             turns += [it.split()[1] for it in shown]
@@ -305,7 +305,7 @@ class Shown(OnMachine):
         self.assertEqual(len(first[0]), 4)
         parts = [(first[0], range(100_000, 200_000)), ExploreError("the program ended")]
         with mock.patch.object(explorer.machine, "reads", side_effect=parts):
-            *shown, last = self.lines(explorer, "reads 40000 to 199999")
+            *shown, last = self.lines(explorer, "readers 40000 to 199999")
         self.assertEqual([it.split()[1] for it in shown], [f"{it.split()[0]}:" for it in first[0]])
         said = "4 reads before turn 100000; the turns from there on: the program ended"
         self.assertEqual(last, said)
@@ -334,7 +334,7 @@ class AtPrompt(AtTerminal):
 
     def test_ctrl_c_shows_what_was_found(self) -> None:
         self.begin("examples/ledger/ledger.session")
-        self.type("reads 40000 to 999999999\n")
+        self.type("readers 40000 to 999999999\n")
         self.wait_for(b" turns, ")
         self.interrupt()
         self.wait_for(b"turn 84671: cpu 000115, by user 000012 ADD R2,@#20000")

@@ -108,7 +108,7 @@ class Named(OnMachine):
 
     def test_a_poll_is_cut_and_goes_on(self) -> None:
         """TSTB @#TKS; BPL .-4: each even turn reads."""
-        explorer, line, turns = self.program(0o105737, 0o177560, 0o100375), "reads TKS to 999", ""
+        explorer, line, turns = self.program(0o105737, 0o177560, 0o100375), "readers TKS to 999", ""
         while line:
             *shown, last = self.lines(explorer, line)
             turns += " ".join(["", *(it.split()[1][:-1] for it in shown)])
@@ -121,11 +121,11 @@ class Named(OnMachine):
         words = (0o112737, 0o101, 0o177566, 0o12701, 0o177564, 0o5711, 0o105261, 2, 0)
         explorer = self.program(*words)
         self.assertEqual(
-            self.lines(explorer, "writes TPB to 20"),
+            self.lines(explorer, "writers TPB to 20"),
             ["turn 0: cpu 000101, by kernel 001000 MOVB #101,@#177566"]
             + ["turn 3: cpu 000001, by kernel 001014 INCB 2(R1)", "2 writes in the turns 0 to 20"],
         )
-        self.assertEqual(len(self.lines(explorer, "reads TPS to 20")), 2)
+        self.assertEqual(len(self.lines(explorer, "readers TPS to 20")), 2)
 
     def test_breakpoints_forwards_and_backwards(self) -> None:
         explorer = self.program(0o105737, 0o177560, 0o100375)

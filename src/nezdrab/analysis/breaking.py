@@ -109,14 +109,14 @@ def condition_sought(explorer: Explorer, parts: list[str]) -> str:
 def watch(explorer: Explorer, arguments: Arguments) -> Iterator[str]:
     """Sets a breakpoint at each turn that writes the core word at A, an address of core, also if
     the word stays the same, and also if the disk writes it. An image and a patch are no writes. A
-    may be a register on the bus, such as TPB, as in `writes`."""
+    may be a register on the bus, such as TPB, as in `writers`."""
     yield set_line(set_watch(explorer, arguments.octal("address"), is_read=False))
 
 
 @command("rwatch A", r"<address:place>", "a breakpoint: a read of a core word or a register")
 def rwatch(explorer: Explorer, arguments: Arguments) -> Iterator[str]:
-    """Sets a breakpoint at each turn that reads the core word at A, an address of core, as `reads`
-    lists them: the processor or the disk. A may be a register on the bus, such as TKB."""
+    """Sets a breakpoint at each turn that reads the core word at A, an address of core, as
+    `readers` lists them: the processor or the disk. A may be a register on the bus, such as TKB."""
     yield set_line(set_watch(explorer, arguments.octal("address"), is_read=True))
 
 

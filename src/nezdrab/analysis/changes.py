@@ -1,4 +1,4 @@
-"""All values of words, and all writes of words of core: `changes`, `writes`."""
+"""All values of words, and all writes of words of core: `changes`, `writers`."""
 from heapq import merge
 from itertools import islice
 from typing import Iterator, NamedTuple, Optional, Sequence
@@ -14,7 +14,7 @@ from .command import Arguments, command, searched_range
 from .disk_words import DiskWord, acts_in_words
 from .explorer import Explorer
 from .finder import parts_of
-from .reads import register_writes
+from .readers import register_writes
 from .search import WORD_OF_DISK, disk_word_of
 from .transfers import DiskMove, transfers_in
 
@@ -176,8 +176,8 @@ def changes_command(explorer: Explorer, arguments: Arguments) -> Iterator[str]:
     N is 0. Without `to` M is a million turns past the greatest turn that was asked so far. It is
     exact. After 256 changes, and all others of the last one's turn, the list is cut, and the last
     line says how it goes on. A write that leaves the word as it was is no change: the last line
-    counts those to core, and `writes` lists them. If a turn writes a word more than once, only the
-    last write counts. A may be a register, as in `reads`: listed are the turns before and after
+    counts those to core, and `writers` lists them. If a turn writes a word more than once, only the
+    last write counts. A may be a register, as in `readers`: listed are the turns before and after
     which a read of it would give different words, with their events, what comes out, and what the
     processor does, be it the cause or not. Of TPB and PPB, which can't be read, they are the writes
     of another word than the write before in these turns. A million turns take some 5 s."""
@@ -203,21 +203,21 @@ def changes_command(explorer: Explorer, arguments: Arguments) -> Iterator[str]:
 
 
 @command(
-    "writes A[..B] [from N] [to M]",
+    "writers A[..B] [from N] [to M]",
     r"(<begin:address>\.\.<end:address>|<address:place>){from}{to}",
     "all writes of a core word, of a range or a register, and who wrote them",
 )
-def writes_command(explorer: Explorer, arguments: Arguments) -> Iterator[str]:
+def writers(explorer: Explorer, arguments: Arguments) -> Iterator[str]:
     """Lists each of the turns N to M that writes the core word at A, or one of the words A to B, up
     to 4096: the address, the word that was written, who wrote it, and by which instruction or
     function. It lists a write that leaves the word as it was too, and no image and no patch. If a
     turn writes a word more than once, only the last write counts. N and M are as in `changes`, and
-    so is where a list is cut. It is exact. A may be a register, as in `reads`: what the processor
+    so is where a list is cut. It is exact. A may be a register, as in `readers`: what the processor
     writes there, a word or a byte. What a device does to its own registers is no write."""
     turns, address = searched_range(explorer, arguments), arguments.octal("address")
     if is_register(address):
         yield from register_writes(explorer, turns, address)
         return
     words = words_of(arguments)
-    listing = Listing(explorer, f"writes {in_a_line(words)}", words, turns, has_same=True)
+    listing = Listing(explorer, f"writers {in_a_line(words)}", words, turns, has_same=True)
     yield from listing.lines(writes_in_core(explorer, turns, words))

@@ -9,7 +9,7 @@ from .crew import stopped_by
 from .explorer import Explorer
 from .finder import found_with_bar
 from .listing import turns_in_words
-from .reads import MOST_SHOWN, SHOWN_AT_ONCE, Looked
+from .readers import MOST_SHOWN, SHOWN_AT_ONCE, Looked
 
 
 def rows(explorer: Explorer, found: Sequence[RegisterChange]) -> Iterator[str]:

@@ -21,7 +21,7 @@ OVER = "`over` steps over a call, `step` into it"
 OVER_BACK = "`reverse-over` steps back over a call, `back` into it"
 OUT = "`finish` goes on to where the current routine has returned"
 CALLS = "`calls` lists the calls, interrupts and traps that the current turn stands in"
-READS = "`rwatch A` sets a breakpoint at reads, `watch A` at writes; `reads A` lists the reads"
+READS = "`rwatch A` sets a breakpoint at reads, `watch A` at writes; `readers A` lists the reads"
 REGISTERS = "`show` has the registers, `pages N` the mapping, `devices N` the devices"
 DEPOSIT = "`core A W` sets the word at A from power-up on: it changes the past"
 RUN = "each turn is there already: `show N`, `text N`; `until PC A` finds the turn that comes to A"
@@ -175,6 +175,19 @@ LINES_WITH_ARGUMENTS = [
     ("next", "", OVER),
     ("where", "", CALLS),
 ]
+
+
+# The words of explore for lists that the language has other lines for, by the words of these.
+BESIDE_LANGUAGE = {"reads": "readers", "writes": "writers"}
+
+
+def list_of(word: str, rest: str) -> str:
+    """What to type for `reads A`, or an empty text: in the language two turns stand before A."""
+    has_turns = all(it[:1].isdigit() for it in [*rest.split(), ""][:2])
+    if word not in BESIDE_LANGUAGE or has_turns:
+        return ""
+    line = f"{BESIDE_LANGUAGE[word]} {rest or 'A'}"
+    return f"`{line}` lists them; `{word} N M A` is a line of searches"
 
 
 class Value(str):

@@ -9,10 +9,12 @@ from ..core.hardware import IO_PAGE, IO_PAGE_OF_PROGRAMS, LARGEST_WORD, NAMES_IN
 from ..core.replies import Mode
 from ..core.symbols import ADDRESS
 
-MAPPED_WORDS = ("last", "writes", "next", "changes", "first", "watch", "why", "reads", "rwatch")
+MAPPED_WORDS = (
+    *("last", "writes", "writers", "next", "changes", "first", "watch", "why", "readers", "rwatch"),
+)
 MAPPED_HELP = (
-    "In `last N A`, `writes [N M] A`, `next A`, `changes A`, `reads A`, `first core A = W`, "
-    "`watch A`, `rwatch A` and `why A`, A may be `kernel A` or `user A`, an address as a program "
+    "In `last N A`, `writes N M A`, `writers A`, `next A`, `changes A`, `readers A`, "
+    "`first core A = W`, `watch A`, `rwatch A` and `why A`, A may be `kernel A` or `user A`, an address as a program "
     "of that mode has it. It stands for the address of core that a read before turn N comes to; "
     "without N it is the turn of `from`, in `why` that of `at`, or the current turn. In other "
     "turns it may be another one. A line that takes a word of core from 160000 to 177777 says so, "
@@ -20,8 +22,8 @@ MAPPED_HELP = (
 )
 WORD_LINE = (
     r"(?P<before>((?P<bare>mem[ \t]+[0-9]{1,10}|reads([ \t]+[0-9]{1,10}){2}|(un)?core|list|dump)"
-    r"|last[ \t]+(?P<last>[0-9]{1,10})|writes([ \t]+(?P<writes>[0-9]{1,10})[ \t]+[0-9]{1,10})?"
-    r"|next|changes|watch|reads|rwatch|(?P<why>why)([ \t]+core)?|first[ \t]+core)[ \t]+)"
+    r"|last[ \t]+(?P<last>[0-9]{1,10})|writes[ \t]+(?P<writes>[0-9]{1,10})[ \t]+[0-9]{1,10}"
+    r"|writers|next|changes|watch|readers|rwatch|(?P<why>why)([ \t]+core)?|first[ \t]+core)[ \t]+)"
     r"((?P<mode>kernel|user)[ \t]+(?!(from|to)[ \t]))?"
     rf"(?P<address>{ADDRESS})(?P<after>(?![^\s=]).*)"
 )

@@ -22,7 +22,7 @@ from ..core.written_files import OUTPUT
 from .commands import COMMANDS, ENDS, HELP
 from .completion import completions
 from .display import definition_line, displays_after_move
-from .foreign import Value, led_on, line_of, names_register, sentence
+from .foreign import BESIDE_LANGUAGE, Value, led_on, line_of, list_of, names_register, sentence
 from .mapped import MAPPED_HELP, MAPPED_WORDS, in_core
 from .output import LINES, Unwritable, fault_in_words, flush, put
 from .topics import LINES as LINES_OF, SESSION, TOPICS, command_lines, commands_of, forms_in_lines
@@ -263,7 +263,7 @@ class Prompt(Interpreter):
             return
         if word.rstrip("!") in ENDS:
             raise Ended(is_dropped=word[-1] == "!")
-        led = self.led_on(word, rest)
+        led = list_of(word, rest) or self.led_on(word, rest)
         if led:
             yield from self.lines_of_other(led, rest)
         elif word in HELP:
@@ -337,6 +337,8 @@ class Prompt(Interpreter):
             lines += [*([""] if lines else []), *forms_of_searches(word), ""]
             lines += [CONDITION_HELP, ""] if any("CONDITION" in it for it in lines) else []
             lines.append(FADES_HELP if word == "fades" else SEARCH_HELP)
+            if word in BESIDE_LANGUAGE:
+                lines += ["", f"{BESIDE_LANGUAGE[word]} A lists them with what each turn did"]
         if word in COMMANDS:  # also in place of a list, such as `events`
             found = COMMANDS[word]
             forms = [it.strip() for it in forms_in_lines(found.form)]
@@ -377,13 +379,11 @@ class Prompt(Interpreter):
 
 
 def is_own(word: str, rest: str) -> bool:
-    """Whether a line is a command of explore. A line of the language may begin with its word: the
-    searches `reads` and `writes` have two turns there, and the commands an address. The command
-    `accesses` has the words of the line, and shows more."""
+    """Whether a line is a command of explore. A line of the language may begin with its word. The
+    command `accesses` has the words of the line, and shows more."""
     if word == "accesses":
         return True
-    turns = 2 if word in ("reads", "writes") else 1
-    if word in SEARCHES and all(is_decimal(it[:1]) for it in [*rest.split(), ""][:turns]):
+    if word in SEARCHES and is_decimal(rest[:1]):
         return False
     if word in FORMS:
         writes = word in WRITING and re.search(r"[ \t]at[ \t]+[^ \t]+$", rest)

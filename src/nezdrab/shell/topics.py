@@ -33,13 +33,13 @@ TOPICS = {
     ),
     "data": Topic(
         "words and instructions",
-        ("dump", "list", "diff", "changes", "writes", "reads"),
+        ("dump", "list", "diff", "changes", "writers", "readers"),
         "Lines for it are mem, dsk, last, find, translate and others: see help session and "
         "help searches.",
     ),
     "causes": Topic(
         "what a value is made of, what became of an event, which events matter",
-        ("why", "follow", "lost", "changes", "reads", "accesses", "matters", "reduce"),
+        ("why", "follow", "lost", "changes", "readers", "accesses", "matters", "reduce"),
     ),
     "edits": Topic(
         "other programs, keys and events, and back",

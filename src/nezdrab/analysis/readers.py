@@ -1,4 +1,4 @@
-"""Who read a word of core, or read or wrote a register: `reads`."""
+"""Who read a word of core, or read or wrote a register: `readers`."""
 from typing import Generic, Iterable, Iterator, Sequence, TypeVar, Union
 
 from ..core.in_words import counted, span
@@ -10,6 +10,7 @@ from .disk_words import acts_in_words
 from .explorer import Explorer
 
 MOST_SHOWN, SHOWN_AT_ONCE = 256, 16
+WORDS = {"read": "readers", "write": "writers"}  # that list what is named so
 
 
 # What is listed: turns with who read or wrote, and the word.
@@ -57,18 +58,18 @@ def looked_lines(
     for at in range(0, len(shown), SHOWN_AT_ONCE):
         yield from rows(explorer, shown[at : at + SHOWN_AT_ONCE])
     if more:
-        on = f"{what}s {address:o} from {more[0].turn} to {looked.turns[-1]}"
+        on = f"{WORDS[what]} {address:o} from {more[0].turn} to {looked.turns[-1]}"
         yield f"{MOST_SHOWN} {what}s or more; on: {on}"
     else:
         yield looked.how_many(what)
 
 
 @command(
-    "reads A [from N] [to M]",
+    "readers A [from N] [to M]",
     r"<address:place>{from}{to}",
     "the reads of a core word or a register, and who read it",
 )
-def reads_command(explorer: Explorer, arguments: Arguments) -> Iterator[str]:
+def readers(explorer: Explorer, arguments: Arguments) -> Iterator[str]:
     """Lists each of the turns N to M that reads the core word at A: who reads it, the processor or
     the disk, the word that is read, and the instruction or the function that reads it. All reads
     count: of instructions, index words and pointers, of operands, also those that are written then,
