@@ -2,7 +2,10 @@
 import subprocess
 import sys
 from pathlib import Path
+from unittest import mock
 
+from nezdrab.analysis.disassembly import disassembler_of
+from nezdrab.core.errors import ExploreError
 from nezdrab.shell.commands import COMMANDS, MODULES
 
 from .explore_case import ROOT, SECONDS, Case
@@ -70,6 +73,39 @@ class Start(Case):
         self.starts(HOME=str(self.folder))
         kept = self.folder.rglob("*.pyc")
         self.assertEqual([it.name for it in kept if str(ROOT) not in str(it)], [])
+
+
+class Modules(Case):
+    """The start has what a prompt needs, and no more."""
+
+    MOST, MOST_OF_OURS = 130, 44
+    LATER = {"completion", "assembler", "load", "machine", "questions", "moves", "finder", "listing"}
+    LATER_OF_PYTHON = {"dataclasses", "inspect", "tempfile", "shutil", "json", "textwrap", "random"}
+
+    def test_few_are_read(self) -> None:
+        code = "import sys\nbefore = set(sys.modules)\nfrom nezdrab import main\n"
+        code += "print(*set(sys.modules) - before)"
+        command, path = [sys.executable, "-S", "-B", "-c", code], str(ROOT / "src")
+        ran = subprocess.run(command, env={"PYTHONPATH": path}, capture_output=True, text=True)
+        read = ran.stdout.split()
+        ours = {it.rpartition(".")[2] for it in read if it.startswith("nezdrab")}
+        self.assertIn("prompt", ours)
+        self.assertEqual((ours & self.LATER, {*read} & self.LATER_OF_PYTHON), (set(), set()))
+        self.assertLess(len(ours), self.MOST_OF_OURS)
+        self.assertLess(len(read), self.MOST)
+
+    def test_the_disassembler_is_looked_for_when_an_instruction_is_shown(self) -> None:
+        """What looks for it is a script that takes as long as all else at the start."""
+        looked: list[str] = []
+        found = mock.patch("nezdrab.analysis.disassembly.program_of")
+        with found as program_of:
+            program_of.side_effect = ExploreError("there is none")
+            disassembler = disassembler_of(None, looked.append)
+            self.assertFalse(program_of.called)
+            for word in (0o240, 0o5000):
+                shown = disassembler.instruction(0, [word, 0, 0])
+                self.assertEqual((shown.words, shown.text), (1, f".WORD {word:06o}"))
+        self.assertEqual(looked, ["there is none; instructions are shown as words"])
 
 
 class Commands(Case):

@@ -1,4 +1,5 @@
 """The program disassemble as a child process."""
+from functools import cached_property
 from typing import Callable, Optional, Sequence
 
 from ..core.program import Child, ProgramEnded
@@ -36,10 +37,17 @@ class Disassemble(Child):
 class Disassembler:
     """Asks the program disassemble. Without it instructions are shown as `.WORD`."""
 
-    def __init__(self, program: Optional[str]):
-        self.program = program
+    def __init__(
+        self, program: Optional[str], later: Optional[Callable[[], Optional[str]]] = None
+    ):
+        self._given, self._later = program, later
         self.child = Disassemble([program]) if program else None
         self.known: dict[tuple[int, ...], Instruction] = {}
+
+    @cached_property
+    def program(self) -> Optional[str]:
+        """The path of the program, or None. It may be looked for only when it is needed first."""
+        return self._later() if self._later else self._given
 
     def instruction(self, address: int, words: Sequence[int]) -> Instruction:
         """The instruction at this virtual address, from its word and the two that follow."""
@@ -74,9 +82,18 @@ class Disassembler:
 
 
 def disassembler_of(given: Optional[str], say: Callable[[str], None]) -> Disassembler:
-    """Without the program explore goes on, and shows words."""
+    """The program that is given, or one that is looked for when an instruction is shown first: that
+    takes as long as all else at the start. Without one explore goes on, and shows words."""
+
+    def found() -> Optional[str]:
+        try:
+            return program_of("disassemble", given)
+        except ExploreError as error:
+            say(f"{error}; instructions are shown as words")
+            return None
+
     try:
-        return Disassembler(program_of("disassemble", given))
+        return Disassembler(found()) if given else Disassembler(None, found)
     except ExploreError as error:
         say(f"{error}; instructions are shown as words")
         return Disassembler(None)

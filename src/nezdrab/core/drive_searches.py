@@ -16,8 +16,7 @@ SEARCHES, LAST_TURN = ("first", "latest"), 1_000_000_000
 FIRST_PART, LARGEST_PART = 16_384, 10_000_000  # turns that are searched together
 IN_VERSION = {1: r"(?<!\S)disk ([0-7]+)(?!\S)", 2: r"(?<!\S)disk ([0-7]+ [0-7]+)(?!\S)"}
 BAD_LINE = "refused 10 BadLine"
-OF_NUMBER = re.compile(r"([0-7]+) (=|!=|<|>|&) (.+)")
-MASKED = re.compile("([0-7]+) = ([0-7]+)")
+OF_NUMBER, MASKED = "([0-7]+) (=|!=|<|>|&) (.+)", "([0-7]+) = ([0-7]+)"
 RELATIONS: dict[str, Callable[[int, int], bool]] = {
     **{"=": operator.eq, "!=": operator.ne, "<": operator.lt, ">": operator.gt},
 }
@@ -50,11 +49,11 @@ def growing(turns: range, is_backwards: bool, largest: int) -> Iterator[range]:
 
 def settled(term: str) -> Union[bool, str]:
     """A part of a CONDITION as the program has it; if it is of numbers alone, whether it holds."""
-    found = OF_NUMBER.fullmatch(term)
+    found = re.fullmatch(OF_NUMBER, term)
     if found is None:
         return term
     number, relation, other = int(found[1], 8), found[2], found[3]
-    masked = MASKED.fullmatch(other) if relation == "&" else None
+    masked = re.fullmatch(MASKED, other) if relation == "&" else None
     if masked is not None:
         return number & int(masked[1], 8) == int(masked[2], 8)
     if re.fullmatch("[0-7]+", other):

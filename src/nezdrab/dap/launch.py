@@ -97,6 +97,7 @@ def started(fields: Fields, programs: Programs) -> tuple[Explorer, list[str]]:
     check_options(options, given, session)
     said = list(warnings_of(options))
     disassembler = disassembler_of(programs.disassemble, said.append)
+    _ = disassembler.program  # it is looked for at once, so that the editor is told without one
     try:
         search = program_of("search", programs.search)
         machine = Machine(Start(search, words_of_options(options), Path.cwd()))

@@ -105,7 +105,7 @@ EXAMINED = r"(?:x|p|print|e|ex|examine)/([0-9]{0,4})([a-z]{0,2})"
 FORMATS = {"i": "instructions", "b": "bytes", "c": "text", "d": "words", "u": "words"}
 OF_BYTES = ("bytes", "text")
 # What stands for a word that is still to be typed.
-PLACES = re.compile(r"(?<![^ ])(A|C|M|N|V|W|X|FILE|LINE|NAME|TEXT|WORD)(?![^ ])")
+PLACES = r"(?<![^ ])(A|C|M|N|V|W|X|FILE|LINE|NAME|TEXT|WORD)(?![^ ])"
 VIRTUAL = "`dump user A C` takes an address of a program, as `dump kernel A C` does"
 # Lines with arguments: the first words, what follows them, and the sentence, with what follows.
 REGISTER = r"\$?(?:r[0-7]|[ku]?sp|pc|psw?)"
@@ -324,5 +324,5 @@ def line_of(said: str, rest: str = "") -> str:
     """The line that a sentence begins with, or an empty text if it begins with none, or with one
     that lacks a word which isn't typed."""
     found = re.match("`([^`]+)`", said)
-    lacking = set(PLACES.findall(found[1])) - set(rest.split()) if found else set()
+    lacking = set(re.findall(PLACES, found[1])) - set(rest.split()) if found else set()
     return found[1] if found and not lacking else ""

@@ -20,7 +20,6 @@ from ..core.language import FADING, FORMS, LISTS, OF_LANGUAGE, SEARCHES, SUMMARI
 from ..core.language import form_of, forms_of_searches, is_decimal, is_edit
 from ..core.written_files import OUTPUT
 from .commands import COMMANDS, ENDS, HELP
-from .completion import completions
 from .display import definition_line, displays_after_move
 from .foreign import BESIDE_LANGUAGE, Value, led_on, line_of, list_of, names_register, sentence
 from .mapped import MAPPED_HELP, MAPPED_WORDS, in_core
@@ -225,6 +224,8 @@ class Prompt(Interpreter):
     def complete(self, text: str, number: int) -> Optional[str]:
         """The completion of a word with this number, for readline."""
         if number == 0:
+            from .completion import completions  # which Tab alone needs
+
             before = readline.get_line_buffer()[: readline.get_begidx()]
             self.completions = completions(self.explorer, before, text)
         return self.completions[number] if number < len(self.completions) else None
