@@ -7,7 +7,7 @@ from typing import Iterable, Sequence
 
 from nezdrab.analysis.sought_reply import is_reply
 from nezdrab.core.engine import Machine
-from nezdrab.core.reducing import Reduction
+from nezdrab.core.twins import Reduction
 
 from .explore_case import ROOT
 from .machines import LEDGER, OnMachine

@@ -4,12 +4,12 @@ import random
 import re
 from typing import Sequence
 
-from nezdrab.analysis.account import ranges
 from nezdrab.analysis.cells import ALL_CODES, drive_cell, is_on_bus, register_cells
 from nezdrab.analysis.explorer import Explorer
 from nezdrab.analysis.labels import Labels, events_with_data
 from nezdrab.analysis.last_writes import LastWrites
 from nezdrab.analysis.origins import Origins
+from nezdrab.core.in_words import ranges
 from nezdrab.analysis.turn_flow import Flows
 from nezdrab.core.engine import Machine
 from nezdrab.core.errors import ExploreError

@@ -6,12 +6,11 @@ from typing import Iterator, Sequence
 from ..core.asked import sparse_stride
 from ..core.engine import Machine
 from ..core.errors import ExploreError
-from ..core.in_words import counted
+from ..core.in_words import counted, ranges
 from ..core.moves import named_events
 from ..core.past import Event
-from ..core.reducing import Reduction
+from ..core.twins import Reduction
 from ..core.values import dataclass
-from .account import ranges
 from .command import Arguments, command
 from .crew import Progress, stopped_by
 from .explorer import Explorer

@@ -12,8 +12,7 @@ from ..core.errors import ExploreError
 from ..core.in_words import counted, some_are
 from ..core.language import MOST_DIGITS, SEARCHES, comma_fault, is_decimal, is_edit
 from ..core.sessions import words_of
-from ..core.sweeping import Sweep
-from ..core.twins import each_of
+from ..core.twins import Sweep, each_of
 from ..core.values import dataclass, field
 from .command import Arguments, check_turn, command
 from .crew import Progress

@@ -62,7 +62,7 @@ def settled(term: str) -> Union[bool, str]:
 
 
 class DriveSearch(NamedTuple):
-    """A search: its first word, its CONDITION, and the words of drives in it, as lines name them."""
+    """A search: its first word, its CONDITION, and the words of drives in it as lines name them."""
 
     machine: Machine
     word: str

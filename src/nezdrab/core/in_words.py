@@ -1,4 +1,5 @@
 """Counts and ranges of turns, as messages have them."""
+from typing import Sequence
 
 
 def counted(count: int, what: str) -> str:
@@ -17,3 +18,15 @@ def span(turns: range) -> str:
     """The turns of a range that has one at least: `turn 5`, or `the turns 5 to 9`."""
     first, last = turns[0], turns[-1]
     return f"turn {first}" if first == last else f"the turns {first} to {last}"
+
+
+def ranges(numbers: Sequence[int]) -> str:
+    """Numbers in their order, such as `1, 3-5, 9`."""
+    parts: list[list[int]] = []
+    for number in numbers:
+        if parts and parts[-1][-1] + 1 == number:
+            parts[-1].append(number)
+        else:
+            parts.append([number])
+    shown = (f"{it[0]}-{it[-1]}" if len(it) > 1 else f"{it[0]}" for it in parts)
+    return ", ".join(shown) or "none"

@@ -7,8 +7,7 @@ from .engine import LAST_TURN, UNDO, Machine
 from .errors import ExploreError
 from .past import Event
 from .replies import hash_of
-from .sweeping import replies_to
-from .twins import each_of
+from .twins import each_of, replies_to
 from .unnoticed import unnoticed
 from .values import dataclass, field
 

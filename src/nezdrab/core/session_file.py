@@ -46,7 +46,7 @@ def is_step(line: str) -> bool:
 
 
 def steps_taken(machine: Machine, steps: Iterator[str], first: int, undone: list[str]) -> list[str]:
-    """The replies to lines undo and redo, which take edits of the journal back as far as `first`, or
+    """The replies to lines undo and redo, which take edits of the journal back as far as `first` or
     make again those in `undone`. `version 2` isn't taken back, nor what stands before it."""
     replies = []
     for line in steps:
@@ -65,8 +65,8 @@ def steps_taken(machine: Machine, steps: Iterator[str], first: int, undone: list
 
 
 def replies_to(machine: Machine, lines: list[str]) -> Iterator[str]:
-    """The replies to the lines of a session: edits, and undo and redo, which take back edits of this
-    session alone."""
+    """The replies to the lines of a session: edits, and undo and redo, which take back edits of
+    this session alone."""
     first, undone = len(machine.journal), list[str]()
     for are_steps, group in groupby(lines, is_step):
         if are_steps:

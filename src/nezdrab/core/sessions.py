@@ -9,7 +9,7 @@ LONGEST_LINE = 200
 
 
 class Line(NamedTuple):
-    """A line of the language, as `search --lines` has it: its form; whether it is of sessions, or of
+    """A line of the language, as `search --lines` has it: its form; whether it is of sessions or of
     searches alone; what it is; the kinds of its arguments; how its reply begins if the line is
     taken; which turns it asks of; and what it does. If a reply is its first word and the count C, C
     lines follow."""

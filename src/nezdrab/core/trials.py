@@ -62,7 +62,7 @@ class Trials:
         """Each of the turns with the answer to the question if the event were there: a new event,
         such as "tick", or the one with this number, moved. The past stays as it is. Turns are taken
         as answers are: both may go on for ever."""
-        from .sweeping import Sweep  # which few need
+        from .twins import Sweep  # which few need
 
         asked = questions.question_of(question)
         swept = Sweep.of(self._engine, event, asked.lines(self._number))
@@ -89,8 +89,7 @@ class Trials:
         `is_wanted`. Of the last of these lists no single event can be left out; fewer others might
         do, which no try has met. `events` are the numbers of those that may be left out, if not all
         may. The past stays as it is. A NezdrabError if the answer isn't wanted at first."""
-        from .reducing import Reduction  # which few need
-        from .sweeping import replies_to
+        from .twins import Reduction, replies_to  # which few need
 
         asked, engine = questions.question_of(question), self._engine
         lines = list(asked.lines(self._number))
@@ -155,7 +154,7 @@ class Trials:
         The past stays as it is. A NezdrabError if the question names no turn, or if the answer is
         wanted without a move."""
         from .moves import Asking, Moves, nearest_moves  # which few need
-        from .sweeping import replies_to
+        from .twins import replies_to
 
         asked, engine, most = questions.question_of(question), self._engine, operator.index(within)
         lines = list(asked.lines(self._number))

@@ -3,8 +3,8 @@ import os
 import re
 from typing import Callable, Iterator
 
-from ..analysis.breaking import condition_sought, set_break, set_catch, set_watch
-from ..analysis.breakpoints import Breakpoint
+from ..analysis.breakpoints import Breakpoint, condition_sought, set_break, set_catch
+from ..analysis.breakpoints import set_watch
 from ..analysis.explorer import Explorer
 from ..core.errors import ExploreError
 from ..core.expressions import Before

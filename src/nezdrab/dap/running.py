@@ -2,8 +2,7 @@
 heard. A stop is before a turn, as all that is shown."""
 from typing import Callable, Generator, Optional
 
-from ..analysis.breaking import reached_line
-from ..analysis.breakpoints import Breakpoint, Breakpoints
+from ..analysis.breakpoints import Breakpoint, Breakpoints, reached_line
 from ..analysis.calls import doubt_lines, ended_levels
 from ..analysis.explorer import Explorer
 from ..analysis.finder import growing_parts

@@ -18,7 +18,7 @@ MODULES = {
     **{"export.web_session": "page", "analysis.screen": "screen"},
     **{"analysis.search": "until next first where", "analysis.stepping": "step back run"},
     "analysis.calls": "calls finish reverse-finish over reverse-over",
-    "analysis.breaking": "break watch rwatch catch breakpoints delete continue reverse-continue",
+    "analysis.breakpoints": "break watch rwatch catch breakpoints delete continue reverse-continue",
     **{"analysis.changes": "changes writers", "analysis.follow": "follow"},
     **{"analysis.accesses": "accesses", "analysis.lost": "lost", "analysis.sweep": "sweep"},
     **{"analysis.matters": "matters", "analysis.readers": "readers", "analysis.seeing": "see show"},

@@ -5,7 +5,7 @@ from itertools import islice
 from pathlib import Path
 from typing import Iterable, Iterator
 
-from ..analysis.breaking import sought_at
+from ..analysis.breakpoints import sought_at
 from ..analysis.command import Arguments, command, searched_range
 from ..analysis.crew import stopped_by
 from ..analysis.explorer import Explorer

@@ -13,12 +13,12 @@ MAPPED_WORDS = (
     *("last", "writes", "writers", "next", "changes", "first", "watch", "why", "readers", "rwatch"),
 )
 MAPPED_HELP = (
-    "In `last N A`, `writes N M A`, `writers A`, `next A`, `changes A`, `readers A`, "
-    "`first core A = W`, `watch A`, `rwatch A` and `why A`, A may be `kernel A` or `user A`, an address as a program "
-    "of that mode has it. It stands for the address of core that a read before turn N comes to; "
-    "without N it is the turn of `from`, in `why` that of `at`, or the current turn. In other "
-    "turns it may be another one. A line that takes a word of core from 160000 to 177777 says so, "
-    "if the mode of the current turn, or kernel mode, has the I/O page there."
+    "In `last N A`, `writes N M A`, `writers A`, `next A`, `changes A`, `readers A`, `first core "
+    "A = W`, `watch A`, `rwatch A` and `why A`, A may be `kernel A` or `user A`, an address as a "
+    "program of that mode has it. It stands for the address of core that a read before turn N "
+    "comes to; without N it is the turn of `from`, in `why` that of `at`, or the current turn. In "
+    "other turns it may be another one. A line that takes a word of core from 160000 to 177777 "
+    "says so, if the mode of the current turn, or kernel mode, has the I/O page there."
 )
 WORD_LINE = (
     r"(?P<before>((?P<bare>mem[ \t]+[0-9]{1,10}|reads([ \t]+[0-9]{1,10}){2}|(un)?core|list|dump)"

@@ -32,7 +32,10 @@ BLANKS = " \t"
 INTRODUCTION = "lines of the session language, and help, console, see, until ..; quit ends"
 OWN_HELP = {
     "help": ("help [TOPIC|WORD|all]", "what there is, or what the command WORD does"),
-    "quit": ("quit", "ends, as q, exit and Ctrl-D do, unless edits would be lost; quit! drops them"),
+    "quit": (
+        "quit",
+        "ends, as q, exit and Ctrl-D do, unless edits would be lost; quit! drops them",
+    ),
 }
 SEARCH_HELP = (
     "With N and M it is about the turns from N on and before M, with N alone about the machine "
