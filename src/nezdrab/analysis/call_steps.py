@@ -3,9 +3,8 @@ from typing import NamedTuple, Optional
 
 from ..core.engine import Machine
 from ..core.hardware import OPERAND_TRAPS
-from ..core.register_rows import KSP, PC, PLACE, POINTERS, STATUS, USP
+from ..core.register_rows import KSP, PC, PLACE, POINTERS, STATUS, USP, Batch
 from ..core.replies import MODES, Mode, Registers, Turn
-from ..core.turn_batches import Batch
 from ..core.values import dataclass
 from .finder import Finder
 from .levels import JSR, NEAR_BYTES, WITH_NUMBER, WITHOUT, Done, is_load

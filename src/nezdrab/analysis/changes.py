@@ -6,15 +6,19 @@ from typing import Iterator, NamedTuple, Optional, Sequence
 from ..core.all_words import differing, written
 from ..core.engine import LAST_TURN, MOST_WORDS, Machine
 from ..core.errors import ExploreError
+from ..core.hardware import NAMES_IN_THE_IO_PAGE
 from ..core.in_words import counted, span
 from ..core.places import is_register
+from ..core.register_changes import WRITTEN_ALONE, RegisterChange, register_changes, shown_at
 from ..core.values import dataclass
-from .changes_of_registers import check_alone, register_lines
+from .accesses import cycle_line, lines_of
 from .command import Arguments, command, searched_range
+from .crew import stopped_by
 from .disk_words import DiskWord, acts_in_words
 from .explorer import Explorer
-from .finder import parts_of
-from .readers import register_writes
+from .finder import found_with_bar, parts_of
+from .listing import turns_in_words
+from .readers import Looked, register_writes
 from .search import WORD_OF_DISK, disk_word_of
 from .transfers import DiskMove, transfers_in
 
@@ -141,6 +145,48 @@ class Listing:
         is_told = not self.has_same and not self.is_on_drive
         end = ", where the run ends" if self.turns.stop == LAST_TURN else ""
         yield f"{count} in {span(self.turns)}{same * is_told}{end}"
+
+
+# Registers
+
+
+def register_rows(explorer: Explorer, found: Sequence[RegisterChange]) -> Iterator[str]:
+    """A line for each of these: the turn, the words, and what the turn has in it besides cycles."""
+    machine = explorer.machine
+    by = turns_in_words(explorer, [it.turn for it in found])
+    for it, act in zip(found, by):
+        (turn,), _ = machine.accesses(range(it.turn, it.turn + 1))
+        cycles = {cycle_line(cycle) for cycle in turn.cycles}
+        had = [*(line for line in lines_of(turn) if line not in cycles), act]
+        before = "------" if it.before is None else f"{it.before:06o}"
+        yield f"{it.turn:>10}  {before}  {it.after:06o}  {'; '.join(had)}"
+
+
+def register_lines(explorer: Explorer, turns: range, place: int) -> Iterator[str]:
+    """The changes of a register in these turns, and how many there are."""
+    name, looked = NAMES_IN_THE_IO_PAGE[place], Looked[RegisterChange](turns)
+    if name not in WRITTEN_ALONE:
+        shown_at(explorer.machine, name)  # an error if nothing shows it
+    changes = found_with_bar(register_changes(explorer.machine, turns, place), turns)
+    looked.stopped = stopped_by(looked.look(changes))
+    shown, more = looked.found[:MOST_SHOWN], looked.found[MOST_SHOWN:]
+    what = "was written" if name in WRITTEN_ALONE else "a read gives"
+    yield from [f"{'turn':>10}  before  after   {name}: what {what}; in the turn"] if shown else []
+    for at in range(0, len(shown), SHOWN_AT_ONCE):
+        yield from register_rows(explorer, shown[at : at + SHOWN_AT_ONCE])
+    if more:
+        on = f"changes {name} from {more[0].turn} to {turns[-1]}"
+        yield f"cut after {MOST_SHOWN} changes; on: {on}"
+    else:
+        yield looked.how_many("change")
+
+
+def check_alone(count: str) -> None:
+    if count:
+        raise ExploreError("a register has no words behind it: changes A without C lists it")
+
+
+# Commands
 
 
 def words_of(arguments: Arguments) -> range:

@@ -1,9 +1,8 @@
 """The longest, deepest and slowest of some turns."""
 from typing import Iterable, Iterator, Optional
 
-from .register_rows import KSP, PS, USP
+from .register_rows import KSP, PS, USP, Batch
 from .replies import Turn
-from .turn_batches import Batch
 from .values import dataclass, field
 
 PRIORITY, USER_MODE = 0o340, 0o140000

@@ -22,7 +22,6 @@ from .errors import ExploreError
 from .found import Found, Transfer, going_on
 from .in_words import counted
 from .language import explanation, is_edit
-from .logged import log
 from .options import Options, check_session, faults_of, option_lines, options_of_session
 from .options import options_of_words, words_of_options
 from .past import Event
@@ -396,8 +395,6 @@ class Machine(Trials, Walks):
             return items_at(reads_at, self._engine, since, until, place)
         found = partial(questions.reads, address, until=until)
         return going_on(lambda it: self.ask(found(since=it)), operator.index(since), behind)
-
-    log = log
 
     def accesses(
         self, turn: SupportsIndex, count: SupportsIndex = 1

@@ -1,17 +1,19 @@
-"""What a machine tells of many turns: the changes of a register, branches, extremes."""
+"""What a machine tells of many turns: the changes of a register, branches, extremes, a log."""
 from __future__ import annotations
 
 import operator
-from typing import Iterator, NamedTuple, Optional, SupportsIndex
+from typing import Any, Iterator, NamedTuple, Optional, SupportsIndex
 
 from .engine import MOST_TURNS_OF_A_TRAIL, SHORT_SENT_AHEAD, Machine as Engine
 from .errors import ExploreError
+from .expressions import ALL_REGISTERS, Before
 from .extreme_turns import Extremes
 from .places import is_register
-from .questions import Address
+from .questions import Address, ModeName, first, octal
 from .register_changes import RegisterChange, register_changes
-from .replies import Registers
-from .turn_batches import batches
+from .replies import Mode, Registers
+from .symbols import Symbols
+from .register_rows import batches
 
 OF_CODES, SOB = (1, 2, 3, 0o100, 0o101, 0o102, 0o103), 0o077  # conditional branches, from bit 9 on
 
@@ -45,7 +47,15 @@ class Walks:
 
     _engine: Engine
 
+    symbols: Symbols
+
     def _place(self, address: Address) -> int:
+        raise NotImplementedError
+
+    def _number(self, address: Address, mode: Optional[Mode] = None) -> int:
+        raise NotImplementedError
+
+    def ask(self, question: Any) -> Any:
         raise NotImplementedError
 
     def register_changes(
@@ -77,3 +87,32 @@ class Walks:
         for _ in found.walk(batches(self._engine, turns)) if turns else ():
             pass
         return found
+
+    def log(
+        self,
+        pc: Address,
+        text: str = ALL_REGISTERS,
+        *,
+        until: SupportsIndex,
+        since: SupportsIndex = 0,
+        mode: Optional[ModeName] = None,
+        where: Optional[str] = None,
+    ) -> Iterator[tuple[int, str]]:
+        """The turns of the range that run the instruction at `pc`, in any mode or in this one, and
+        that meet a CONDITION, if one is given, each with the text. A name in braces there stands
+        for a word before the turn, in octal: that of a register, also "TKS", "core A", "user A", a
+        symbol or "2(SP)"; "turn" for the turn."""
+        named = None if mode is None else Mode(mode)
+        address, begin = octal(self._number(pc, named)), operator.index(since)
+        parts = [f"at {address}", named.value if named else "", where or ""]
+        condition = " and ".join(filter(None, parts))
+
+        def turns() -> Iterator[int]:
+            found = self.ask(first(where=condition, since=begin, until=until))
+            while found is not None:
+                yield found
+                found = self.ask(first(where=condition, since=found + 1, until=until))
+
+        Before(self._engine, self.symbols, begin).filled(text)  # an error if a name is none
+        for it in Before.each(self._engine, self.symbols, turns()):
+            yield it.turn, it.filled(text)

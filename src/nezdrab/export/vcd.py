@@ -7,9 +7,8 @@ from ..analysis.routines import Labels
 from ..core.engine import Machine
 from ..core.hardware import TRAPS
 from ..core.in_words import span
-from ..core.register_rows import GENERAL, KSP, PC, PLACE, PS, STATE, USP
+from ..core.register_rows import GENERAL, KSP, PC, PLACE, PS, STATE, USP, Batch
 from ..core.replies import DISK_READY, DiskFunction, Mode, Registers, Turn
-from ..core.turn_batches import Batch
 from ..core.values import dataclass
 
 # The registers that are shown, each with its part of a reply of `regs`.

@@ -145,7 +145,9 @@ class Prompt(Interpreter):
             with AtWork(name) as self.at_work, INTERRUPTS.allowed():
                 lines: Iterable[str] = self.lines_and_displays(line)
                 if name in HELP and self.is_paged:
-                    lines = [] if page(text := list(lines)) else text
+                    text = list(lines)
+                    self.at_work.shows()
+                    lines = [] if page(text) else text
                 self.show(lines)
         except Ended as ended:
             is_ended = self.end(ended.is_dropped)
