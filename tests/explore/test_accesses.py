@@ -5,7 +5,7 @@ from pathlib import Path
 from nezdrab.core.engine import MOST_WORDS, Machine, Start
 from nezdrab.core.errors import ExploreError
 from nezdrab.core.hardware import IO_PAGE
-from nezdrab.shell.commands import COMMANDS
+from nezdrab.shell.command_table import COMMANDS
 from tests import stored_sessions as sessions
 from tests.checks.flows import each_flow
 

@@ -5,7 +5,7 @@ from typing import Optional
 from nezdrab.analysis.explorer import Explorer
 from nezdrab.core.engine import SHORT_SENT_AHEAD
 from nezdrab.core.replies import Registers
-from nezdrab.shell.commands import COMMANDS
+from nezdrab.shell.command_table import COMMANDS
 
 from .machines import OnMachine
 from .terminal import AtTerminal

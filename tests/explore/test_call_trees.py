@@ -19,7 +19,7 @@ from nezdrab.core.replies import INSTRUCTION, INTERRUPT, Mode
 from nezdrab.core.symbol_files import Symbol
 from nezdrab.core.symbols import Symbols
 from nezdrab.export.callgrind import remarks, stacks_of
-from nezdrab.shell.commands import COMMANDS
+from nezdrab.shell.command_table import COMMANDS
 
 from .explore_case import ROOT, SECONDS
 from .machines import LEDGER, OnMachine

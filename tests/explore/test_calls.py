@@ -10,7 +10,7 @@ from nezdrab.analysis.listing import seen
 from nezdrab.core.engine import SHORT_SENT_AHEAD
 from nezdrab.core.errors import ExploreError
 from nezdrab.core.replies import Mode, Registers
-from nezdrab.shell.commands import COMMANDS
+from nezdrab.shell.command_table import COMMANDS
 
 from .machines import LEDGER, OnMachine
 

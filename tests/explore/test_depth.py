@@ -8,7 +8,7 @@ from nezdrab.analysis.sweep import LineSweep
 from nezdrab.core.engine import Machine
 from nezdrab.core.program import Program
 from nezdrab.main import read_session
-from nezdrab.shell.commands import COMMANDS
+from nezdrab.shell.command_table import COMMANDS
 
 from .machines import LEDGER, OnMachine
 

@@ -8,7 +8,7 @@ from nezdrab.core.drive_searches import FIRST_PART
 from nezdrab.core.engine import SHORT_SENT_AHEAD
 from nezdrab.core.replies import Registers, Turn
 from nezdrab.dap.running import ahead
-from nezdrab.shell.commands import COMMANDS
+from nezdrab.shell.command_table import COMMANDS
 from tests.checks.word_reads import first_reads_in
 
 from .editor import Editor, Object

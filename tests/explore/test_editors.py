@@ -6,7 +6,7 @@ from typing import Any
 from nezdrab.analysis.explorer import Explorer
 from nezdrab.analysis.levels import Stacks
 from nezdrab.core.replies import Mode
-from nezdrab.shell.commands import COMMANDS
+from nezdrab.shell.command_table import COMMANDS
 
 from .editor import Editor, Object, WithEditors
 from .explore_case import ROOT

@@ -10,7 +10,7 @@ from nezdrab.core.engine import LAST_TURN, Machine
 from nezdrab.core.errors import ExploreError
 from nezdrab.core.replies import text_of
 from nezdrab.shell import prompt  # noqa: F401, it adds the commands
-from nezdrab.shell.commands import COMMANDS
+from nezdrab.shell.command_table import COMMANDS
 
 from .systems import KEYS, LEDGER, OfSystems
 

@@ -5,7 +5,7 @@ from typing import Iterable
 from nezdrab.core.errors import ExploreError
 from nezdrab.core.language import FORMS, LISTS, SEARCHES
 from nezdrab.shell import prompt  # which adds the commands
-from nezdrab.shell.commands import COMMANDS
+from nezdrab.shell.command_table import COMMANDS
 from nezdrab.shell.foreign import FOREIGN, LINES_WITH_ARGUMENTS, line_of, sentence
 from nezdrab.shell.prompt import Prompt
 

@@ -6,7 +6,7 @@ import termios
 
 from nezdrab.core.language import FORMS, LISTS, SEARCHES
 from nezdrab.shell import prompt, wrapping  # noqa: F401, which adds the commands
-from nezdrab.shell.commands import COMMANDS
+from nezdrab.shell.command_table import COMMANDS
 from nezdrab.shell.topics import ASKING, LINES, NAMED, SHOWING, TOPICS, commands_of
 
 from .explore_case import Case

@@ -6,7 +6,7 @@ from nezdrab.shell import log
 from nezdrab.analysis.explorer import Explorer
 from nezdrab.core.errors import ExploreError
 from nezdrab.core.replies import INSTRUCTION, Registers
-from nezdrab.shell.commands import COMMANDS
+from nezdrab.shell.command_table import COMMANDS
 
 from .machines import LEDGER, OnMachine
 from .terminal import AtTerminal

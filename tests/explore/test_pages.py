@@ -14,7 +14,7 @@ from nezdrab.core.written_files import OUTPUT
 from nezdrab.export import page_file
 from nezdrab.export.page_file import BEGIN, EMPTY, END, NAME, PageSession, page_with
 from nezdrab.export.web_session import symbol_text
-from nezdrab.shell.commands import COMMANDS
+from nezdrab.shell.command_table import COMMANDS
 
 from .explore_case import BUILT, ROOT, SECONDS, Case
 from .machines import OnMachine

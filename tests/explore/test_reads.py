@@ -11,7 +11,7 @@ from nezdrab.core.engine import MOST_WORDS, Machine, Start
 from nezdrab.core.errors import ExploreError
 from nezdrab.core.hardware import IO_PAGE
 from nezdrab.core.replies import WordRead
-from nezdrab.shell.commands import COMMANDS
+from nezdrab.shell.command_table import COMMANDS
 from tests.checks.flows import each_flow
 from tests.checks.word_reads import READING, first_reads_in
 

@@ -14,7 +14,7 @@ from nezdrab.core.register_search import READ, WRITTEN, found_at
 from nezdrab.core.replies import Mode, TurnAccesses
 from nezdrab.core.symbol_files import Symbol
 from nezdrab.core.symbols import Symbols
-from nezdrab.shell.commands import COMMANDS
+from nezdrab.shell.command_table import COMMANDS
 
 from .explore_case import BUILT
 from .machines import OnMachine

@@ -6,7 +6,7 @@ from unittest import mock
 
 from nezdrab.analysis.disassembly import disassembler_of
 from nezdrab.core.errors import ExploreError
-from nezdrab.shell.commands import COMMANDS, MODULES
+from nezdrab.shell.command_table import COMMANDS, MODULES
 
 from .explore_case import ROOT, SECONDS, Case
 
@@ -79,7 +79,7 @@ class Modules(Case):
     """The start has what a prompt needs, and no more."""
 
     MOST, MOST_OF_OURS = 130, 44
-    LATER = {"completion", "assembler", "load", "machine", "questions", "moves", "finder", "listing"}
+    LATER = {"completion", "assembler", "load", "machine", "questions", "moves", "listing"}
     LATER_OF_PYTHON = {"dataclasses", "inspect", "tempfile", "shutil", "json", "textwrap", "random"}
 
     def test_few_are_read(self) -> None:
@@ -126,11 +126,11 @@ class Commands(Case):
     def test_none_is_read_at_the_start(self) -> None:
         """None but those that the prompt itself needs; and then the one that is typed."""
         code = (
-            "import sys\nfrom nezdrab import main\nfrom nezdrab.shell import commands\n"
+            "import sys\nfrom nezdrab import main\nfrom nezdrab.shell import command_table\n"
             "def show():\n"
-            "    read = [it for it in commands.MODULES if f'nezdrab.{it}' in sys.modules]\n"
+            "    read = [it for it in command_table.MODULES if f'nezdrab.{it}' in sys.modules]\n"
             "    print(*read)\n"
-            "show()\ncommands.COMMANDS['console']\nshow()\n"
+            "show()\ncommand_table.COMMANDS['console']\nshow()\n"
         )
         command, path = [sys.executable, "-S", "-B", "-c", code], str(ROOT / "src")
         ran = subprocess.run(command, env={"PYTHONPATH": path}, capture_output=True, text=True)

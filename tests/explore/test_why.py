@@ -13,7 +13,7 @@ from nezdrab.core.in_words import ranges
 from nezdrab.analysis.turn_flow import Flows
 from nezdrab.core.engine import Machine
 from nezdrab.core.errors import ExploreError
-from nezdrab.shell.commands import COMMANDS
+from nezdrab.shell.command_table import COMMANDS
 
 from .machines import LEDGER, OnMachine
 from .terminal import AtTerminal

@@ -50,7 +50,7 @@ class Rooms(Case):
         self.assertEqual(
             self.wrong(
                 {
-                    "shell/prompt": "from ..dap import wire\nfrom .commands import COMMANDS",
+                    "shell/prompt": "from ..dap import wire\nfrom .command_table import COMMANDS",
                     "dap/wire": "from ..shell.prompt import Prompt",
                     "main": "from .dap import wire",
                     "export/vcd": "from .. import main",

@@ -13,7 +13,7 @@ from unittest import mock
 
 from documents.manual import manual_files
 from documents.manual.tables import programs
-from nezdrab.shell.commands import COMMANDS
+from nezdrab.shell.command_table import COMMANDS
 from tests import stored_sessions as sessions, under_test
 
 from .tree import ROOT, SECONDS

@@ -10,7 +10,7 @@ from nezdrab.core.replies import Mode
 from nezdrab.core.symbol_files import symbol_file
 from nezdrab.main import read_session
 from nezdrab.shell import prompt  # noqa: F401, it adds the commands
-from nezdrab.shell.commands import COMMANDS
+from nezdrab.shell.command_table import COMMANDS
 
 from tests import under_test
 

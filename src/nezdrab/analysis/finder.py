@@ -4,9 +4,9 @@ from typing import Callable, Iterable, Iterator, Optional, TypeVar
 from ..core.drive_searches import LARGEST_PART, growing
 from ..core.engine import Machine
 from ..core.places import is_register
+from ..core.register_rows import Batch, batches
 from ..core.register_search import reads_at, writes_at
 from ..core.replies import LastWrite, WordRead
-from ..core.register_rows import Batch, batches
 from ..core.values import dataclass
 from .crew import with_bar
 

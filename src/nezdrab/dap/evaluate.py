@@ -7,7 +7,7 @@ from ..core import sessions
 from ..core.errors import ExploreError, LineRefused
 from ..core.expressions import Before
 from ..core.values import dataclass
-from ..shell.commands import WORDS
+from ..shell.command_table import WORDS
 from ..shell.completion import completions
 from ..shell.display import check_only_shows, lines_at
 from ..shell.output import LINES

@@ -16,7 +16,7 @@ from ..core.programs import program_of
 from ..core.session_file import refused_lines
 from ..core.values import dataclass
 from ..shell.command_line import check_options, options_of
-from ..shell.commands import COMMANDS
+from ..shell.command_table import COMMANDS
 from ..shell.load import warnings_of
 from .sources import Sources, mode_of
 from .wire import Fields, Object

@@ -133,7 +133,8 @@ class Callgrind:
         yield f"ob={ob_of(label)}"
         yield f"fl={self.file(label)}"
         yield f"fn={label.name}"
-        for place, count in sorted(self.costs.own.get(label, Counter()).items(), key=by_place):
+        own = self.costs.own.get(label, Counter())
+        for place, count in sorted(own.items(), key=lambda it: of_place(it[0])):
             yield f"{self.position(place, label)} {count}"
         for (_, site, callee), edge in sorted(self.calls.get(label, []), key=by_site):
             yield f"cob={ob_of(callee)}"
@@ -160,10 +161,6 @@ def of_place(place: Optional[Place]) -> tuple[str, int]:
     return ("", 0) if place is None else (place.mode.value, place.address)
 
 
-def by_place(pair: tuple[Optional[Place], int]) -> tuple[str, int]:
-    return of_place(pair[0])
-
-
 def by_site(pair: tuple[EdgeKey, Edge]) -> tuple[tuple[str, int], tuple[str, int, str]]:
     (_, site, callee), _ = pair
     return of_place(site), order(callee)
@@ -178,7 +175,3 @@ def stacks_of(tree: CallTree) -> Counter[str]:
         names[node] = f"{above};{node.label.in_mode()}" if above else node.label.in_mode()
         found[names[node]] += node.turns
     return +found
-
-
-def folded_lines(stacks: Counter[str]) -> Iterator[str]:
-    return (f"{name} {count}" for name, count in sorted(stacks.items()))

@@ -17,7 +17,7 @@ from ..core.language import MOST_DIGITS
 from ..core.replies import Mode
 from ..core.values import dataclass
 from ..core.written_files import OUTPUT, write_whole
-from .callgrind import Callgrind, costs_of, folded_lines, remarks, stacks_of
+from .callgrind import Callgrind, costs_of, remarks, stacks_of
 from .covered import Listing, counted_lines, ran_of, tracefile
 from .vcd import Dump, Word
 
@@ -113,7 +113,7 @@ def write_folded(export: Export) -> Iterator[str]:
         raise ExploreError("nothing stands after `to M` for a .folded")
     tree = CallTree.of(export.explorer, export.turns)
     stacks = stacks_of(tree)
-    export.write(folded_lines(stacks))
+    export.write(f"{name} {count}" for name, count in sorted(stacks.items()))
     yield f"{export.where}: {counted(len(stacks), 'stack')}"
     yield from remarks(tree)
     yield f"open it: flamegraph.pl --countname turns {export.quoted} > flames.svg"

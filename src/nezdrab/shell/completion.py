@@ -8,7 +8,7 @@ from ..analysis.quotes import begun_word, in_quotes, is_plain
 from ..core import sessions
 from ..core.replies import Mode
 from ..core.symbols import AN_ADDRESS, MODES, forms_of
-from .commands import COMMANDS, HELP, WORDS
+from .command_table import COMMANDS, HELP, WORDS
 from .mapped import MAPPED_WORDS
 from .topics import LINES, TOPICS
 

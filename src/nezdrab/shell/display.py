@@ -8,7 +8,7 @@ from ..analysis.explorer import PLACE, TURN, Explorer
 from ..core import sessions
 from ..core.errors import ExploreError, LineRefused
 from ..core.language import OF_LANGUAGE, is_edit
-from .commands import COMMANDS, WORDS
+from .command_table import COMMANDS, WORDS
 from .topics import only_shows
 
 NONE_SET = "no line is displayed: display LINE adds one"

@@ -19,7 +19,7 @@ from ..core.journal import state_folder
 from ..core.language import FADING, FORMS, LISTS, OF_LANGUAGE, SEARCHES, SUMMARIES, explanation
 from ..core.language import form_of, forms_of_searches, is_decimal, is_edit
 from ..core.written_files import OUTPUT
-from .commands import COMMANDS, ENDS, HELP
+from .command_table import COMMANDS, ENDS, HELP
 from .display import definition_line, displays_after_move
 from .foreign import BESIDE_LANGUAGE, Value, led_on, line_of, list_of, names_register, sentence
 from .mapped import MAPPED_HELP, MAPPED_WORDS, in_core

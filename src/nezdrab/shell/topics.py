@@ -3,7 +3,7 @@ from typing import Iterable, Iterator
 
 from ..core.language import FINDING, SUMMARIES, form_of
 from ..core.values import dataclass
-from .commands import COMMANDS
+from .command_table import COMMANDS
 
 
 @dataclass(frozen=True)

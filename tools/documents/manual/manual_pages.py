@@ -4,7 +4,7 @@ import textwrap
 from typing import Iterable, Iterator, Sequence
 
 from nezdrab.core.programs import release
-from nezdrab.shell.commands import COMMANDS
+from nezdrab.shell.command_table import COMMANDS
 from nezdrab.shell.prompt import NUMBERS, OWN_HELP
 from tests import stored_sessions as sessions
 
