@@ -3,8 +3,8 @@ from heapq import merge
 from itertools import islice
 from typing import Iterator, NamedTuple, Optional, Sequence
 
-from ..core.all_words import differing, written
-from ..core.engine import LAST_TURN, MOST_WORDS, Machine
+from ..core.all_words import differing, drive_lines, written
+from ..core.engine import LAST_TURN, Machine
 from ..core.errors import ExploreError
 from ..core.hardware import NAMES_IN_THE_IO_PAGE
 from ..core.in_words import counted, span
@@ -73,14 +73,11 @@ def changes_on_drive(word: DiskWord, turns: range, words: range) -> Iterator[Cha
 
 def changed_by(machine: Machine, write: DiskMove, words: range) -> Iterator[Change]:
     """Those of the words that a write of the disk changes: the words before and after its turn."""
-    first, last = max(words[0], write.on_drive[0]), min(words[-1], write.on_drive[-1])
-    parts = [(at, min(MOST_WORDS, last + 1 - at)) for at in range(first, last + 1, MOST_WORDS)]
-    lines = [
-        [machine.disk_line(turn, write.drive, *it) for it in parts]
-        for turn in (write.turn, write.turn + 1)
-    ]
+    places = range(max(words[0], write.on_drive[0]), min(words[-1], write.on_drive[-1]) + 1)
+    turns = write.turn, write.turn + 1
+    lines = [drive_lines(machine, turn, write.drive, places) for turn in turns]
     for at, before, after in differing(zip(*(list(machine.read_all(it)) for it in lines))):
-        yield Change(write.turn, first + at, before, after, "disk")
+        yield Change(write.turn, places[at], before, after, "disk")
 
 
 @dataclass

@@ -10,12 +10,12 @@ from ..core.hardware import DRIVE_WORDS
 from ..core.language import is_decimal
 from ..core.replies import Mode, words_of
 from ..core.values import dataclass, field
+from ..core.visible import in_text
 from .command import Arguments, command
 from .explorer import Explorer
 from .listing import Listed
 
 WORDS_OF_A_LINE, MOST_DUMPED, VIRTUAL_END = 8, 4_096, 0o200000
-BACKSLASH, BLANK, DELETE = 0o134, 0o40, 0o177
 FAULTS = {
     "abort": "a read is aborted, {}",
     "timeout": "a read times out",
@@ -111,12 +111,6 @@ def fault_in_words(reply: str) -> str:
 # How the words of a line are shown
 
 
-def character(byte: int) -> str:
-    """A byte as `text` shows it."""
-    is_itself = BLANK <= byte < DELETE and byte != BACKSLASH
-    return chr(byte) if is_itself else f"\\{byte:03o}"
-
-
 def in_octal(words: Sequence[Optional[int]]) -> str:
     return " ".join("------" if it is None else f"{it:06o}" for it in words)
 
@@ -130,8 +124,8 @@ def in_bytes(
     return " ".join(unread if it is None else shown(it) for pair in bytes_of for it in pair)
 
 
-def in_text(words: Sequence[Optional[int]]) -> str:
-    return in_bytes(words, lambda it: f"{character(it):>4}")
+def as_text(words: Sequence[Optional[int]]) -> str:
+    return in_bytes(words, lambda it: f"{in_text(it):>4}")
 
 
 def as_numbers(words: Sequence[Optional[int]]) -> str:
@@ -140,11 +134,11 @@ def as_numbers(words: Sequence[Optional[int]]) -> str:
     if word is None:
         return "------"
     signed = word - 0o200000 if word & 0o100000 else word
-    return f"{word:06o}  {word:>5}  {signed:>6}  {in_text(words)}"
+    return f"{word:06o}  {word:>5}  {signed:>6}  {as_text(words)}"
 
 
 FORMATS: dict[str, Callable[[Sequence[Optional[int]]], str]] = {
-    **{"octal": in_octal, "bytes": in_bytes, "text": in_text, "words": as_numbers}
+    **{"octal": in_octal, "bytes": in_bytes, "text": as_text, "words": as_numbers}
 }
 
 

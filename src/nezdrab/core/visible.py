@@ -31,12 +31,12 @@ def visible(text: str) -> str:
     return HIDDEN.sub(lambda it: visible_character(it[0]), text)
 
 
-def shown_byte(byte: int) -> bytes:
-    is_itself = 0o40 <= byte < 0o177 and byte != ord("\\") or byte in MOVES
-    return bytes([byte]) if is_itself else b"\\%03o" % byte
+def in_text(byte: int) -> str:
+    """A byte as replies of `text` have it."""
+    return chr(byte) if 0o40 <= byte < 0o177 and byte != ord("\\") else f"\\{byte:03o}"
 
 
-SHOWN = [shown_byte(it) for it in range(0o400)]
+SHOWN = [bytes([it]) if it in MOVES else in_text(it).encode() for it in range(0o400)]
 
 
 def visible_bytes(data: bytes) -> bytes:
