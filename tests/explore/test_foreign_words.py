@@ -276,6 +276,11 @@ class Leads(OnMachine):
             except ExploreError:
                 self.assertEqual((made.explorer.machine.journal, made.explorer.turn), before)
 
+    def test_a_symbol_that_nothing_has(self) -> None:
+        for line in ("p NOSUCH", "x NOSUCH", "e NOSUCH", "print &NOSUCH"):
+            with self.assertRaisesRegex(ExploreError, "there is no symbol 'NOSUCH'"):
+                list(self.prompt().lines(line))
+
     def test_each_row_has_a_first_line(self) -> None:
         lines = [line.partition(" ")[::2] for line, _ in FIRST_LINES]
         for words, pattern, _ in LINES_WITH_ARGUMENTS:

@@ -117,6 +117,7 @@ PRINTED = r"(?:\*(?=[0-7])|(?=[a-z_.]))(?P<a>0x[0-9a-f]{1,5}|[\w.]+)"
 TO = "(?P<a>[0-7]{1,6})(?:-(?P<last>[0-7]{1,6})|/(?P<bytes>[0-7]{1,6}))?"
 PRINT = "p print output"
 STOP, EXAMINE, DEPOSIT_WORDS = "b br bre break", "e ex exam examine", "dep deposit d set"
+OF_ADDRESSES = frozenset(f"x {EXAMINE} {PRINT}".split())
 LINES_WITH_ARGUMENTS = [
     (STOP, rf"{A}(?P<more> if .+)?", "`break {a}{more}`, then `continue`"),
     ("tb tbreak", rf"{A}(?P<more> if .+)?", f"`break {{a}}{{more}}`, then `continue`; {STAYS}"),
@@ -259,7 +260,10 @@ def led_on(explorer: Explorer, word: str, rest: str) -> str:
     rows = (it for it in LINES_WITH_ARGUMENTS if name in it[0].split())
     matches = ((re.fullmatch(pattern, rest, re.I), said) for _, pattern, said in rows)
     sentences = (filled(explorer, name, found, said) for found, said in matches if found)
-    return next(filter(None, sentences), "") or worked_out(explorer, name, rest)
+    said = next(filter(None, sentences), "") or worked_out(explorer, name, rest)
+    if not said and name in OF_ADDRESSES and re.fullmatch(r"[A-Za-z_.][\w.$]*", place):
+        raise ExploreError(f"there is no symbol '{place}'; symbols FILE reads them")
+    return said
 
 
 def looked_at(explorer: Explorer, word: str, rest: str) -> str:
