@@ -162,8 +162,7 @@ class Counters(OnMachine):
             turn = self.END
             for _ in range(200):
                 last = machine.last(turn, address)
-                wanted = None if last is None else (last.turn, last.writer)
-                self.assertEqual(writes.before(turn, address), wanted)
+                self.assertEqual(writes.before(turn, address), last)
                 turn = last.turn if last and chance.random() < 0.95 else chance.randrange(self.END)
         self.assertTrue(any(it.writes for it in writes.chains.values()))
 
