@@ -1,8 +1,9 @@
 pub mod Cutting
 pub mod OctalTexts
 pub mod OperandTexts
-pub mod Assembler
 pub mod ReadForms
+pub mod OperatorWords
 pub mod ReadTexts
 pub mod SameTexts
 pub mod TextsAndWords
+pub mod Assembled

@@ -1,100 +1,49 @@
 -- The text of an operand says which operand it is.
-use Rattle.std.proofs.Common.{◌≡◌, ℕ, zero, suc, ◌+◌, ◌-◌, ◌*◌, ◌%◌, ◌<◌, Bool, true, false, List, [], ◌∷◌, ◌++◌, refl, sym, ap, subst, ◌∙◌, cond, drop, arith, append_assoc}
-use Rattle.std.specs.Prelude.{◌==◌, ◌||◌, ◌&&◌, not, codes, if◌then◌else◌}
+use Rattle.std.proofs.Common.{◌≡◌, ℕ, zero, suc, ◌+◌, ◌<◌, true, false, List, [], ◌∷◌, ◌++◌, length, refl, sym, ap, subst, ◌∙◌, arith, append_assoc}
+use Rattle.std.specs.Prelude.{◌==◌, ◌&&◌, not, codes, if◌then◌else◌}
 use Rattle.std.specs.List.{list_all}
 use Rattle.std.proofs.lemmas.Bool.{and_parts, and_from}
 use Rattle.std.proofs.lemmas.Bool.Decides.{nat_tests}
 use Rattle.std.proofs.lemmas.List.{append-nil}
 use Rattle.std.proofs.lemmas.List.Folds.{list_all-append}
-use Rattle.pdp_word.specs.Number.{is_digit, worth}
+use Rattle.pdp_word.specs.Number.{is_digit}
 use Rattle.pdp_decode.specs.Fields.{RegisterFits, specifier_of}
 use Rattle.pdp_decode.specs.Format.{digits_of}
 use Rattle.pdp_decode.specs.declared.instruction.Specifier.{Specifier}
 use Rattle.pdp_decode.specs.declared.instruction.Specifier.TheVariants as specifier
 use Rattle.pdp_disassembler.specs.Operands.{takes_word}
 use Rattle.pdp_disassembler.specs.Text.{octal_text, operand_text, register_name, relative_target}
-use Rattle.pdp_disassembler.proofs.Cutting.{front, beyond, stops, front-append, beyond-append}
+use Rattle.pdp_disassembler.specs.Reading.{form_read, is_mark, is_no_comma, number_form, operand_read, word_back}
+use Rattle.pdp_disassembler.proofs.Cutting.{stops, front-append, beyond-append}
 use Rattle.pdp_disassembler.proofs.OctalTexts.{octal_is}
-
--- two texts are the same
-abbrev pub same : List ℕ → List ℕ → Bool
-same [] [] = true
-same [] (other ∷ others) = false
-same (byte ∷ bytes) [] = false
-same (byte ∷ bytes) (other ∷ others) = cond (byte == other) (same bytes others) false
-
--- @ # ( and -, which stand before a number or the name of a register
-abbrev pub is_mark : ℕ → Bool
-is_mark byte = byte == 64 || byte == 35 || byte == 40 || byte == 45
-
--- no comma
-abbrev pub is_plain : ℕ → Bool
-is_plain byte = not (byte == 44)
-
--- the register of this name
-abbrev pub register_read : List ℕ → ℕ
-register_read (first ∷ second ∷ others) = cond (first == 82) (second - 48) (cond (first == 83) 6 7)
-register_read others = 0
-
--- the mode that marks and what follows the name of a register show
-abbrev pub mode_read : List ℕ → List ℕ → ℕ
-mode_read mark ending =
-    if same mark (codes "@-(") then 5
-    else if same mark (codes "-(") then 4
-    else if same mark (codes "@(") then 3
-    else if same mark (codes "(") then (if same ending (codes ")") then 1 else 2)
-    else 0
-
--- the word of a relative operand, from the address that it names
-abbrev pub word_back : ℕ → ℕ → ℕ
-word_back address target = (target + 0o200000 - (address + 2) % 0o200000) % 0o200000
-
--- an operand without a number: its six bits, and no word
-abbrev pub register_form : List ℕ → List ℕ → ℕ × List ℕ
-register_form mark ending = (mode_read mark (drop 2 ending) * 8 + register_read ending, [])
-
--- an operand with a number: its six bits, and its word
-abbrev pub number_form : ℕ → List ℕ → List ℕ → ℕ → ℕ × List ℕ
-number_form address mark ending value =
-    if same mark (codes "#") then (0o27, value ∷ [])
-    else if same mark (codes "@#") then (0o37, value ∷ [])
-    else if same ending [] then ((if same mark [] then 0o67 else 0o77), word_back address value ∷ [])
-    else ((if same mark [] then 0o60 else 0o70) + register_read (drop 1 ending), value ∷ [])
-
-abbrev pub form_read : ℕ → List ℕ → List ℕ → List ℕ → ℕ × List ℕ
-form_read address mark [] ending = register_form mark ending
-form_read address mark (digit ∷ digits) ending = number_form address mark ending (worth 8 (digit ∷ digits))
-
--- the six bits and the words of the operand of a text, whose own word is at this address
-unfoldable pub operand_read : ℕ → List ℕ → ℕ × List ℕ
-operand_read address text =
-    form_read address (front is_mark text) (front (is_digit 8) (beyond is_mark text))
-    (beyond (is_digit 8) (beyond is_mark text))
 
 -- a text is read as this operand, and has no comma
 pub record SaysOperand (address : ℕ) (text : List ℕ) (code : ℕ) (words : List ℕ) : Type 0 where
   pub read : operand_read address text ≡ (code, words)
-  pub plain : list_all is_plain text ≡ true
+  pub plain : list_all is_no_comma text ≡ true
 
 digit_is_no_mark : (first digit : ℕ) → first ≡ 48 + digit → digit < 8 → not (is_mark first) ≡ true
 digit_is_no_mark first digit e l = grind (arith, nat_tests)
 
-digit_is_plain : (byte : ℕ) → is_digit 8 byte ≡ true → is_plain byte ≡ true
-digit_is_plain byte h = grind (arith, nat_tests)
+digit_is_no_comma : (byte : ℕ) → is_digit 8 byte ≡ true → is_no_comma byte ≡ true
+digit_is_no_comma byte h = grind (arith, nat_tests)
 
-digits_are_plain : (bytes : List ℕ) → list_all (is_digit 8) bytes ≡ true → list_all is_plain bytes ≡ true
+digits_are_plain : (bytes : List ℕ) → list_all (is_digit 8) bytes ≡ true → list_all is_no_comma bytes ≡ true
 digits_are_plain [] h = refl
 digits_are_plain (byte ∷ bytes) h =
     let parts = and_parts (is_digit 8 byte) (list_all (is_digit 8) bytes) h in
-    and_from _ _ (digit_is_plain byte parts.0) (digits_are_plain bytes parts.1)
+    and_from _ _ (digit_is_no_comma byte parts.0) (digits_are_plain bytes parts.1)
+
+some_digit : (first : ℕ) (others : List ℕ) → (length (first ∷ others) == 0) ≡ false
+some_digit first others = grind (arith, nat_tests)
 
 abbrev SaysNumber : ℕ → List ℕ → List ℕ → List ℕ → ℕ → Type 0
 SaysNumber address text mark ending value =
     SaysOperand address text (number_form address mark ending value).0 (number_form address mark ending value).1
 
 module _ (address value : ℕ) (fits : value < 0o200000) where
-  number_says : (mark ending : List ℕ) → list_all is_mark mark ≡ true → list_all is_plain mark ≡ true
-      → stops (is_digit 8) ending ≡ true → list_all is_plain ending ≡ true
+  number_says : (mark ending : List ℕ) → list_all is_mark mark ≡ true → list_all is_no_comma mark ≡ true
+      → stops (is_digit 8) ending ≡ true → list_all is_no_comma ending ≡ true
       → SaysNumber address (mark ++ (octal_text value ++ ending)) mark ending value
   unfolding operand_read
   number_says mark ending marks plain_mark stop plain_ending =
@@ -106,9 +55,10 @@ module _ (address value : ℕ) (fits : value < 0o200000) where
       let unmarked = beyond-append is_mark mark (octal_text value ++ ending) marks no_mark in
       let digits = front-append (is_digit 8) (octal_text value) ending all stop in
       let ends = beyond-append (is_digit 8) (octal_text value) ending all stop in
+      let some = some_digit o.first o.others in
       let formed : form_read address mark (octal_text value) ending ≡ number_form address mark ending value =
-      rw (o.shown, o.value) refl in
-      let plain_number : list_all is_plain (octal_text value ++ ending) ≡ true =
+      rw (o.shown, o.value, some) refl in
+      let plain_number : list_all is_no_comma (octal_text value ++ ending) ≡ true =
       rw list_all-append (and_from _ _ (digits_are_plain (octal_text value) all) plain_ending) in
       record {
         read = rw (marked, unmarked, digits, ends) formed;
@@ -116,15 +66,15 @@ module _ (address value : ℕ) (fits : value < 0o200000) where
       }
 
   -- a number with marks alone
-  bare_says : (mark : List ℕ) → list_all is_mark mark ≡ true → list_all is_plain mark ≡ true
+  bare_says : (mark : List ℕ) → list_all is_mark mark ≡ true → list_all is_no_comma mark ≡ true
       → SaysNumber address (mark ++ octal_text value) mark [] value
   bare_says mark marks plain_mark =
       let P : List ℕ → Type 0 = λ text. SaysNumber address (mark ++ text) mark [] value in
       subst P (append-nil (octal_text value)) (number_says mark [] marks plain_mark refl refl)
 
   -- an index, and the name of a register
-  index_says : (mark : List ℕ) (first second : ℕ) → list_all is_mark mark ≡ true → list_all is_plain mark ≡ true
-      → list_all is_plain (first ∷ second ∷ []) ≡ true
+  index_says : (mark : List ℕ) (first second : ℕ) → list_all is_mark mark ≡ true → list_all is_no_comma mark ≡ true
+      → list_all is_no_comma (first ∷ second ∷ []) ≡ true
       → SaysNumber address (mark ++ (octal_text value ++ codes "(" ++ (first ∷ second ∷ []) ++ codes ")"))
       mark (40 ∷ first ∷ second ∷ 41 ∷ []) value
   index_says mark first second marks plain_mark plain_name =
@@ -133,9 +83,9 @@ module _ (address value : ℕ) (fits : value < 0o200000) where
       let grouped : octal_text value ++ codes "(" ++ name ++ codes ")" ≡ octal_text value ++ (40 ∷ first ∷ second ∷ 41 ∷ []) =
       ap (λ text. text ++ codes ")") (append_assoc (octal_text value) (codes "(") name)
       ∙ append_assoc (octal_text value) (codes "(" ++ name) (codes ")") in
-      let parts = and_parts (is_plain first) (is_plain second && true) plain_name in
-      let plain_ending : list_all is_plain (40 ∷ first ∷ second ∷ 41 ∷ []) ≡ true =
-      and_from _ _ parts.0 (and_from _ _ (and_parts (is_plain second) true parts.1).0 refl) in
+      let parts = and_parts (is_no_comma first) (is_no_comma second && true) plain_name in
+      let plain_ending : list_all is_no_comma (40 ∷ first ∷ second ∷ 41 ∷ []) ≡ true =
+      and_from _ _ parts.0 (and_from _ _ (and_parts (is_no_comma second) true parts.1).0 refl) in
       subst P (sym grouped) (number_says mark (40 ∷ first ∷ second ∷ 41 ∷ []) marks plain_mark refl plain_ending)
 
 relative_back : (address word : ℕ) → word < 0o200000 → word_back address (relative_target address word) ≡ word

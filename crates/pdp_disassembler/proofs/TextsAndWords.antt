@@ -4,21 +4,21 @@ use Rattle.pdp_decode.specs.Table.{instr_of_word}
 use Rattle.pdp_disassembler.specs.Operands.{operands_of}
 use Rattle.pdp_disassembler.specs.Text.{instruction_text, operator_text, words_taken}
 use Rattle.pdp_disassembler.specs.TextLaw.{AreThreeWords, TextsAreOfWords}
-use Rattle.pdp_disassembler.proofs.Assembler.{words_read}
+use Rattle.pdp_disassembler.proofs.OperatorWords.{words_said}
 use Rattle.pdp_disassembler.proofs.ReadTexts.{following, instruction_reads, taken_words}
 use Rattle.pdp_disassembler.proofs.SameTexts.{same_operands}
 
-same_words : (address : ℕ) (words others : List ℕ) → AreThreeWords words → AreThreeWords others
+pub same_words : (address : ℕ) (words others : List ℕ) → AreThreeWords words → AreThreeWords others
     → instruction_text address words ≡ instruction_text address others → words_taken words ≡ words_taken others
 same_words address words others are also same =
-    sym (instruction_reads address words are) ∙ ap (words_read address) same
+    sym (instruction_reads address words are) ∙ ap (words_said address) same
     ∙ instruction_reads address others also
 
-abbrev three : ℕ → ℕ → ℕ → List ℕ
+abbrev pub three : ℕ → ℕ → ℕ → List ℕ
 three word next last = word ∷ next ∷ last ∷ []
 
 -- with one instruction word
-same_following : (address word next last other another : ℕ)
+pub same_following : (address word next last other another : ℕ)
     → following next last (operands_of (instr_of_word word)) ≡ following other another (operands_of (instr_of_word word))
     → instruction_text address (three word next last) ≡ instruction_text address (three word other another)
 unfolding instruction_text
@@ -41,13 +41,13 @@ same_three address word next last second other another same =
     subst P equal (same_following address word next last other another) rest
 
 -- a list of three
-record IsThree (words : List ℕ) : Type 0 where
-  word : ℕ
-  next : ℕ
-  last : ℕ
-  is : words ≡ three word next last
+pub record IsThree (words : List ℕ) : Type 0 where
+  pub word : ℕ
+  pub next : ℕ
+  pub last : ℕ
+  pub is : words ≡ three word next last
 
-is_three : (words : List ℕ) → AreThreeWords words → IsThree words
+pub is_three : (words : List ℕ) → AreThreeWords words → IsThree words
 is_three [] are = let e = are.three in absurd (omega arith)
 is_three (word ∷ []) are = let e = are.three in absurd (omega arith)
 is_three (word ∷ next ∷ []) are = let e = are.three in absurd (omega arith)
