@@ -1,6 +1,7 @@
 # Made by tools/make manual: completes the options and files of nezdrab-disassemble.
 _nezdrab_disassemble() {
-    local options='-h
+    local options='--assemble
+-h
 --help
 -V
 --version'

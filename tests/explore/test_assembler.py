@@ -90,6 +90,69 @@ class AllWords(unittest.TestCase):
         self.inverse(0, 0o177776, 0)
 
 
+class OfTheProgram(unittest.TestCase):
+    """`disassemble --assemble`, which takes back what the program shows."""
+
+    def replies(self, lines: Sequence[str]) -> list[str]:
+        ended = subprocess.run(
+            [BUILT.disassembler, "--assemble"],
+            input="".join(f"{it}\n" for it in lines),
+            capture_output=True,
+            text=True,
+            timeout=SECONDS,
+        )
+        self.assertEqual((ended.stderr, ended.returncode), ("", 0))
+        return ended.stdout.splitlines()
+
+    def inverse(self, address: int, first: int, second: int) -> None:
+        found = instructions([(address, word, first, second) for word in range(0o200000)])
+        replies = self.replies([f"{at:o} {text}" for text, at, _ in found])
+        wanted = [" ".join(f"{it:06o}" for it in words) for _, _, words in found]
+        self.assertEqual(replies, wanted)
+
+    def test_all_words(self) -> None:
+        self.inverse(0o1000, 0o10, 0o177777)
+
+    def test_all_words_where_addresses_wrap(self) -> None:
+        self.inverse(0o177774, 0o100000, 0o21)
+
+    def test_what_it_refuses(self) -> None:
+        no_text, none = "not an address and an instruction", "no instruction has this text"
+        digits, large = "not a number of 1 to 6 octal digits", "a number over 177777"
+        for line, said in (
+            ("", no_text),
+            ("1000", no_text),
+            (" 1000 \t", no_text),
+            ("8 NOP", digits),
+            ("0001000 NOP", digits),
+            ("MOV R0,R1", digits),
+            ("200000 NOP", large),
+            ("1000 NOP ", none),
+            ("1000 nop", none),
+            ("1000 CLC CLV", none),
+            ("1000 MOV R0, R1", none),
+            ("1000 MOV R6,R1", none),
+            ("1000 MOV #005,R0", none),
+            ("1000 MOV #200000,R0", none),
+            ("1000 CLR @(R1)", none),
+            ("1000 CLR R8", none),
+            ("1000 EMT 400", none),
+            ("1000 MARK 100", none),
+            ("1000 BR 1001", none),
+            ("1000 BR 400", none),
+            ("1000 BR 1402", none),
+            ("1000 SOB R0,602", none),
+            ("1000 SOB R0,1004", none),
+            ("1000 JSR (R1),5", none),
+            ("1000 .WORD 012700", none),
+        ):
+            self.assertEqual(self.replies([line]), [f"bad line: {said}"], line)
+
+    def test_directives(self) -> None:
+        lines = ["  1000 \t.WORD 075000", "1000 .WORD 000260", "1000 .WORD 177777"]
+        self.assertEqual(self.replies(lines), ["075000", "000260", "177777"])
+
+
 class Typed(unittest.TestCase):
     """What the disassembler writes in another way, and what is no instruction."""
 

@@ -7,7 +7,7 @@ use Rattle.std.specs.Str.Lines.{lines, lines_of_parts, strip_carriage_return}
 use Rattle.std.proofs.lemmas.Bool.Decides.{nat_tests}
 use Rattle.std.proofs.lemmas.List.{get_or_push, length_push, take_at}
 use Rattle.std.proofs.lemmas.List.Folds.{list_all_at}
-use Rattle.disassemble.specs.Answer.{answers_of, line_in, read_answer}
+use Rattle.disassemble.specs.Answer.{line_in}
 
 abbrev is_feed : ℕ → Bool
 is_feed byte = byte == 10
@@ -88,6 +88,11 @@ lines_after : (front rest : List ℕ)
     → lines_of_parts (front ∷ slice_split is_feed rest) ≡ strip_carriage_return front ∷ lines rest
 lines_after front rest = parts_after front (slice_split is_feed rest) (split_has rest)
 
+of_one : (text : List ℕ) → 0 < length text → lines_of_parts (text ∷ []) ≡ text ∷ lines []
+of_one [] some = absurd (omega arith)
+of_one (byte ∷ bytes) some =
+    let is_text : (length (byte ∷ bytes) == 0) ≡ false = grind (arith, nat_tests) in rw is_text refl
+
 -- what was read up to the first LF, if there is none: the line is what was read
 line_of_whole : (text : List ℕ) → 0 < length text → list_all is_inside text ≡ true → line_in text ≡ text
 line_of_whole text some inside = by_last (slice_index text (length text - 1) == 10) refl
@@ -106,30 +111,21 @@ line_of_cut front =
     let rest : take (length front) (front ++ 10 ∷ []) ≡ front = take_at front (10 ∷ []) (length front) refl in
     rw (size, last, rest) refl
 
--- the answers to a text: that to what is read up to the first LF, and those to what is left
-pub answers_next : (text : List ℕ)
-    → answers_of text ≡ read_answer (take_through 10 text) ++ answers_of (drop_through 10 text)
-unfolding answers_of
-answers_next text = by_cut text (cuts text)
+-- the lines of a text that isn't empty: what is read up to the first LF, and the lines of what is left
+pub lines_next : (text : List ℕ) → 0 < length text
+    → lines text ≡ line_in (take_through 10 text) ∷ lines (drop_through 10 text)
+lines_next text some = by_cut (cuts text)
   where
-    of_whole : (text : List ℕ) → IsWhole text → answers_of text ≡ read_answer text ++ answers_of []
-    of_whole [] whole = refl
-    of_whole (byte ∷ bytes) whole =
-        let some : (length (byte ∷ bytes) == 0) ≡ false = grind (arith, nat_tests) in
-        rw (whole.parts, some, line_of_whole (byte ∷ bytes) (omega arith) whole.inside) refl
+    of_whole : IsWhole text → lines text ≡ line_in text ∷ lines []
+    of_whole whole = rw (whole.parts, line_of_whole text some whole.inside) (of_one text some)
 
-    of_cut : (text front rest : List ℕ) → IsCut text front rest
-        → answers_of text ≡ read_answer (front ++ 10 ∷ []) ++ answers_of rest
-    of_cut text front rest cut =
-        let some : (length (front ++ 10 ∷ []) == 0) ≡ false = grind (arith, length_push, nat_tests) in
-        rw (cut.parts, lines_after front rest, some, line_of_cut front) refl
+    of_cut : (front rest : List ℕ) → IsCut text front rest → lines text ≡ line_in (front ++ 10 ∷ []) ∷ lines rest
+    of_cut front rest cut = rw (cut.parts, lines_after front rest, line_of_cut front) refl
 
-    by_cut : (text : List ℕ) → Cuts text
-        → answers_of text ≡ read_answer (take_through 10 text) ++ answers_of (drop_through 10 text)
-    by_cut text (inl whole) = rw (whole.taken, whole.left) (of_whole text whole)
-    by_cut text (inr (front, rest, cut)) = rw (cut.taken, cut.left) (of_cut text front rest cut)
+    by_cut : Cuts text → lines text ≡ line_in (take_through 10 text) ∷ lines (drop_through 10 text)
+    by_cut (inl whole) = rw (whole.taken, whole.left) (of_whole whole)
+    by_cut (inr (front, rest, cut)) = rw (cut.taken, cut.left) (of_cut front rest cut)
 
-pub answers_of_nothing : (text : List ℕ) → length text ≡ 0 → answers_of text ≡ []
-unfolding answers_of
-answers_of_nothing [] none = refl
-answers_of_nothing (byte ∷ bytes) none = absurd (omega arith)
+pub lines_of_nothing : (text : List ℕ) → length text ≡ 0 → lines text ≡ []
+lines_of_nothing [] none = refl
+lines_of_nothing (byte ∷ bytes) none = absurd (omega arith)

@@ -1,11 +1,12 @@
--- A line of input: an address and three words, in octal [P].
+-- A line of input: an address and three words, in octal; or an address, and the text of an
+-- instruction [P].
 use Rattle.std.specs.Prelude.{ℕ, Bool, ◌||◌, ◌==◌, not, nat_lt, if◌then◌else◌, List, [], ◌∷◌}
-use Rattle.std.specs.Prelude.{length, filter, Option, Some, None, Result, Ok, Err}
-use Rattle.std.specs.List.{slice_split}
+use Rattle.std.specs.Prelude.{length, filter, take, drop, Option, Some, None, Result, Ok, Err}
+use Rattle.std.specs.List.{prefix_len, slice_split}
 use Rattle.pdp_word.specs.Number.{number_of}
 use Rattle.disassemble.specs.declared.line.Code.{Code}
 use Rattle.disassemble.specs.declared.line.BadLine.{BadLine}
-use Rattle.disassemble.specs.declared.line.BadLine.TheVariants.{FieldCount, Digits, Range}
+use Rattle.disassemble.specs.declared.line.BadLine.TheVariants.{FieldCount, NoText, Digits, Range}
 
 -- a space or a tab
 abbrev pub is_separator : ℕ → Bool
@@ -48,3 +49,23 @@ abbrev pub code_in_fields : List (List ℕ) → Result Code BadLine
 code_in_fields (address ∷ word ∷ next ∷ last ∷ []) =
     code_with (word_in_field address) (word_in_field word) (word_in_field next) (word_in_field last)
 code_in_fields _ = Err FieldCount
+
+-- no space and no tab
+abbrev pub is_inside : ℕ → Bool
+is_inside byte = not (is_separator byte)
+
+-- a line without the separators before its first field
+abbrev pub from_field : List ℕ → List ℕ
+from_field line = drop (prefix_len is_separator line) line
+
+abbrev pub first_field : List ℕ → List ℕ
+first_field line = take (prefix_len is_inside (from_field line)) (from_field line)
+
+-- what stands after the first field, and the separators after that
+abbrev pub after_field : List ℕ → List ℕ
+after_field line = from_field (drop (prefix_len is_inside (from_field line)) (from_field line))
+
+-- the address that the first field shows, if a text follows
+abbrev pub address_of_text : List ℕ → Result ℕ BadLine
+address_of_text line =
+    if length (after_field line) == 0 then Err NoText else word_in_field (first_field line)

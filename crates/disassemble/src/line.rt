@@ -1,6 +1,8 @@
-// A line of input: an address and three words.
-ghost use Rattle.std.specs.Prelude.{◌≡◌, [], ◌∷◌, IfOk, map};
-ghost use Rattle.disassemble.specs.Line.{code_in_fields, fields_of, is_separator, word_in_field};
+// A line of input: an address and three words, or an address and the text of an instruction.
+ghost use Rattle.std.specs.Prelude.{◌≡◌, ◌≤◌, [], ◌∷◌, IfOk, length, map};
+ghost use Rattle.std.specs.List.{prefix_len};
+ghost use Rattle.disassemble.specs.Line.{after_field, code_in_fields, fields_of, first_field};
+ghost use Rattle.disassemble.specs.Line.{from_field, is_inside, is_separator, word_in_field};
 
 use pdp_word::read_octal;
 use std::alloc::{AllocError, Global};
@@ -12,15 +14,19 @@ pub struct Code {
     pub words: [u16; 3],
 }
 
-/// Why a line holds no code.
+/// What is wrong with a line.
 #[derive(Clone, Copy)]
 pub enum BadLine {
     /// There aren't four fields.
     FieldCount,
+    /// No text follows the first field.
+    NoText,
     /// A field isn't 1 to 6 octal digits.
     Digits,
     /// A number is over 177777.
     Range,
+    /// No instruction has this text at this address.
+    NoInstruction,
 }
 
 /// The code on this line, which comes without its line feed: four octal numbers, with spaces or
@@ -61,8 +67,48 @@ fn is_separator(byte: u8) -> bool
     byte == b' ' || byte == b'\t'
 }
 
+/// The first field of a line.
+pub fn first_field(line: &[u8]) -> &[u8]
+    ensures { result.now ≡ first_field line.now }
+{
+    let rest = from_field(line);
+    let (field, _) = rest.split_at(field_length(rest));
+    field
+}
+
+/// What stands after the first field and the separators after it: the text of an instruction.
+pub fn after_field(line: &[u8]) -> &[u8]
+    ensures { result.now ≡ after_field line.now }
+{
+    let rest = from_field(line);
+    let (_, rest) = rest.split_at(field_length(rest));
+    from_field(rest)
+}
+
+/// A line without the separators that it begins with.
+fn from_field(line: &[u8]) -> &[u8]
+    ensures { result.now ≡ from_field line.now }
+{
+    let (_, rest) = line.split_at(separators_length(line));
+    rest
+}
+
+fn separators_length(line: &[u8]) -> usize
+    ensures value { result ≡ prefix_len is_separator line.now }
+    ensures within { result ≤ length line.now }
+{
+    line.iter().take_while(|byte| is_separator(**byte)).count()
+}
+
+fn field_length(line: &[u8]) -> usize
+    ensures value { result ≡ prefix_len is_inside line.now }
+    ensures within { result ≤ length line.now }
+{
+    line.iter().take_while(|byte| !is_separator(**byte)).count()
+}
+
 /// The word that a field shows.
-fn word_in(field: &[u8]) -> Result<u16, BadLine>
+pub fn word_in(field: &[u8]) -> Result<u16, BadLine>
     ensures { result ≡ word_in_field field.now }
 {
     if field.len() > MOST_DIGITS {

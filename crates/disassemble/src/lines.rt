@@ -1,10 +1,10 @@
 // The lines of the input, answered one by one.
-ghost use Rattle.std.specs.Prelude.{◌≡◌, OnOk, IfOk, IfSome};
+ghost use Rattle.std.specs.Prelude.{◌≡◌, ℕ, List, OnOk, IfOk, IfSome};
 ghost use Rattle.std.specs.Io.KnownBytes.{Appends};
-ghost use Rattle.std.specs.Str.Lines.{strip_carriage_return};
-ghost use Rattle.disassemble.specs.Answer.{AnswersNext, answers_of, line_in};
+ghost use Rattle.std.specs.Str.Lines.{lines, strip_carriage_return};
+ghost use Rattle.disassemble.specs.Answer.{AnswersNext, AreAnswers, line_in};
 
-use crate::answer::line_answer;
+use crate::answer::{Direction, line_answer};
 use std::alloc::Global;
 use std::io::{BufRead, Error, ErrorKind, Result, Write};
 
@@ -17,14 +17,16 @@ use std::io::{BufRead, Error, ErrorKind, Result, Write};
 /// written before an error.
 pub fn answer_lines<R: BufRead, W: Write>(
     alloc: Global,
+    direction: Direction,
     reader: &mut R,
     writer: &mut W,
 ) -> Result<()>
-    ensures { OnOk result (IfSome (R.remaining reader.old) (λ text.
-        Appends (W.contents writer.old) (W.contents writer.new) (answers_of text))) }
+    ensures { OnOk result (IfSome (R.remaining reader.old) (λ text. (written : List ℕ)
+        × Appends (W.contents writer.old) (W.contents writer.new) written
+        × AreAnswers direction (lines text) written)) }
 {
     'lines: for _ in 0..u64::MAX {
-        if !answer_next(alloc, reader, writer)? {
+        if !answer_next(alloc, direction, reader, writer)? {
             return Ok(());
         }
     }
@@ -32,15 +34,20 @@ pub fn answer_lines<R: BufRead, W: Write>(
 }
 
 /// Answers the next line, and returns whether there was one.
-fn answer_next<R: BufRead, W: Write>(alloc: Global, reader: &mut R, writer: &mut W) -> Result<bool>
-    ensures { IfOk result (λ was_line. AnswersNext (R.remaining reader.old) (R.remaining reader.new)
-        (W.contents writer.old) (W.contents writer.new) was_line) }
+fn answer_next<R: BufRead, W: Write>(
+    alloc: Global,
+    direction: Direction,
+    reader: &mut R,
+    writer: &mut W,
+) -> Result<bool>
+    ensures { IfOk result (λ was_line. AnswersNext direction (R.remaining reader.old)
+        (R.remaining reader.new) (W.contents writer.old) (W.contents writer.new) was_line) }
 {
     let mut read = Vec::new(alloc);
     if reader.read_until(b'\n', &mut read)? == 0 {
         return Ok(false);
     }
-    let answer = line_answer(alloc, line_in(read.as_slice()))?;
+    let answer = line_answer(alloc, direction, line_in(read.as_slice()))?;
     writer.write_all(answer.as_slice())?;
     writer.flush()?;
     Ok(true)
