@@ -5,7 +5,8 @@ import subprocess
 import unittest
 from typing import Sequence
 
-from nezdrab.analysis.assembler import Assembled, assembled
+from nezdrab.analysis.assembler import instruction_text
+from nezdrab.analysis.disassembly import Disassembler
 from nezdrab.core.errors import ExploreError
 from nezdrab.core.replies import Mode
 from nezdrab.core.symbol_files import Symbol, symbol_file
@@ -24,8 +25,8 @@ def symbol(name: str) -> int:
     return NAMES[name]
 
 
-def made(text: str, address: int = 0o1000) -> Assembled:
-    return assembled(text, address, symbol)
+def made(text: str, address: int = 0o1000) -> str:
+    return instruction_text(text, address, symbol)
 
 
 def instructions(taken: Sequence[Sequence[int]]) -> list[tuple[str, int, list[int]]]:
@@ -46,7 +47,17 @@ def instructions(taken: Sequence[Sequence[int]]) -> list[tuple[str, int, list[in
     return found
 
 
-class OfAListing(Case):
+class WithTheProgram(Case):
+    def setUp(self) -> None:
+        super().setUp()
+        self.disassembler = Disassembler(BUILT.disassembler)
+        self.addCleanup(self.disassembler.close)
+
+    def words(self, text: str, address: int = 0o1000) -> list[int]:
+        return self.disassembler.assembled(address, made(text, address))
+
+
+class OfAListing(WithTheProgram):
     """The source of a program, beside the words that are its own."""
 
     LINE = re.compile(r"([0-7]{6})  ((?:[0-7]{6} ?)+) +(?:\w+:)? +([A-Z]+\b(?!:).*)")
@@ -58,8 +69,9 @@ class OfAListing(Case):
         symbols.take([*symbol_file(text).symbols, last], [Mode.KERNEL])
         count = 0
         for address, words, source in self.LINE.findall(text):
-            found = assembled(source, int(address, 8), symbols.number)
-            self.assertEqual(found.words, [int(it, 8) for it in words.split()], source)
+            at = int(address, 8)
+            found = self.disassembler.assembled(at, instruction_text(source, at, symbols.number))
+            self.assertEqual(found, [int(it, 8) for it in words.split()], source)
             count += 1
         self.assertGreater(count, 130)
 
@@ -73,12 +85,7 @@ class AllWords(unittest.TestCase):
         found = instructions([(address, word, first, second) for word in range(0o200000)])
         self.assertEqual(len(found), self.COUNT)
         self.assertEqual(len({text for text, _, _ in found}), len(found))
-        wrong = [
-            (text, words)
-            for text, at, words in found
-            if made(text, at) != Assembled(words, text)
-        ]
-        self.assertEqual(wrong, [])
+        self.assertEqual([text for text, at, _ in found if made(text, at) != text], [])
 
     def test_all_words(self) -> None:
         self.inverse(0o1000, 0o10, 0o177777)
@@ -153,7 +160,7 @@ class OfTheProgram(unittest.TestCase):
         self.assertEqual(self.replies(lines), ["075000", "000260", "177777"])
 
 
-class Typed(unittest.TestCase):
+class Typed(WithTheProgram):
     """What the disassembler writes in another way, and what is no instruction."""
 
     def test_other_texts(self) -> None:
@@ -190,8 +197,7 @@ class Typed(unittest.TestCase):
             ("1$: SOB R0,1$", "SOB R0,1000"),
             ("Here:: 20$:BR here+2", "BR 1002"),
         ):
-            self.assertEqual(made(typed), made(text), typed)
-            self.assertEqual(made(typed).text, text, typed)
+            self.assertEqual((made(typed), made(text)), (text, text), typed)
 
     def test_the_ends_of_targets(self) -> None:
         for text, word in (
@@ -200,8 +206,8 @@ class Typed(unittest.TestCase):
             ("SOB R0,604", 0o77077),
             ("SOB R0,1002", 0o77000),
         ):
-            self.assertEqual(made(text).words, [word])
-        self.assertEqual(made("BR 177602", 0o200).words, [0o600])
+            self.assertEqual(self.words(text), [word])
+        self.assertEqual(self.words("BR 177602", 0o200), [0o600])
 
     def test_faults(self) -> None:
         far = "the target {} is too far: from 1000 this instruction reaches {}"
@@ -259,7 +265,7 @@ class Typed(unittest.TestCase):
             self.assertEqual(str(raised.exception), said, text)
 
     def test_pieces_put_together_by_chance(self) -> None:
-        """Each text is an instruction, whose text is one too, or what is wrong is said."""
+        """Each text is an instruction of the program's, or what is wrong is said."""
         chance, count = random.Random(40), 0
         pieces = ["R0", "PC", "LOOP", "5", "9", "18.", "CLC", "'a", '"ab', "'", '"', "1$:", "%3"]
         pieces += "(()+-@@#,,.;!$%:=    "
@@ -270,7 +276,8 @@ class Typed(unittest.TestCase):
                 found = made(text)
             except ExploreError:
                 continue
-            self.assertEqual(made(found.text), found, text)
+            self.assertEqual(made(found), found, text)
+            self.assertIn(len(self.disassembler.assembled(0o1000, found)), (1, 2, 3), text)
             count += 1
         self.assertGreater(count, 1000)
 
@@ -298,7 +305,6 @@ class OfSimh(Case):
         )
         parts = re.split(r"^of [0-9]+$", ended.stdout, flags=re.M)[1:]
         self.assertEqual(len(parts), len(found))
-        for part, (text, address, _) in zip(parts, found):
+        for part, (text, _, ours) in zip(parts, found):
             theirs = [int(it, 8) for it in re.findall(r"^200[024]:\s+([0-7]{6})$", part, re.M)]
-            ours = made(text, address).words
             self.assertEqual(theirs[: len(ours)], ours, f"{text}: {part}")

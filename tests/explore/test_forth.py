@@ -4,8 +4,7 @@ import shutil
 import subprocess
 from pathlib import Path
 
-from media.assembly import program_of, source_lines
-from media.make_forth import words_of
+from media.make_forth import kernel_of, words_of
 from nezdrab import Machine
 
 from .explore_case import BUILT, ROOT, Case
@@ -66,7 +65,7 @@ class Sources(Case):
             self.assertEqual((self.folder / name).read_bytes(), (FORTH / name).read_bytes(), name)
 
     def test_the_stored_words_are_those_in_core(self) -> None:
-        labels = program_of(list(source_lines(FORTH, "forth.mac"))).labels
+        labels = kernel_of(FORTH, BUILT.disassembler).labels
         session = FORTH / "long" / "lost-note.session"
         with Machine.of_session(session, program=BUILT.program) as machine:
             self.assertEqual(words_of(machine, labels), (FORTH / "words.sym").read_text())

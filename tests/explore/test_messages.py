@@ -170,8 +170,8 @@ class Messages(Case):
             with self.assertRaises(KeyboardInterrupt):
                 disassembler.instruction(0o1000, [0o240, 0, 0])
         self.assertEqual(disassembler.instruction(0o1000, [0, 0, 0]).text, "HALT")
-        assert disassembler.child
-        disassembler.child.process.kill()
+        assert disassembler.texts.child
+        disassembler.texts.child.process.kill()
         killed = "^disassemble: the program ended with status -9$"
         with self.assertRaisesRegex(ExploreError, killed):
             disassembler.instruction(0o1002, [0, 0, 0])

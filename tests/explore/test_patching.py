@@ -4,8 +4,12 @@ import sys
 from .explore_case import SECONDS, Case
 from .terminal import AtTerminal
 
-# A disassembler that takes each word for an HALT.
-HALTS = "#!{python}\nimport sys\nfor line in sys.stdin:\n    print('1 HALT', flush=True)\n"
+# A disassembler that has no instruction but HALT.
+HALTS = """#!{python}
+import sys
+for line in sys.stdin:
+    print("000000" if line.endswith(" HALT\\n") else "bad line: no", flush=True)
+"""
 
 
 class Patched(Case):
@@ -84,13 +88,12 @@ class Patched(Case):
         stand_in.chmod(0o755)
         lines = "core 1000 HALT\ncore 1000 WAIT\ncore 1002 CLR 4\npatches\n"
         written = self.explore(lines, "--disassembler", str(stand_in)).splitlines()
-        said = "and the disassembler shows them as HALT: nothing was changed"
         self.assertEqual(
             written,
             [
                 "001000  000000                HALT",
-                f"core: WAIT would be 000001, {said}",
-                f"core: CLR 4 would be 005067 176776, {said}",
+                "core: no instruction at 1000 is 'WAIT'",
+                "core: no instruction at 1002 is 'CLR 4'",
                 "patches 1",
                 "core 001000 000000",
             ],
@@ -111,7 +114,7 @@ class Patched(Case):
 
     def test_no_disassembler(self) -> None:
         written = self.explore("core 1000 NOP\npatches\n", "--disassembler", "none")
-        said = "without the program disassemble no instruction can be checked"
+        said = "without the program disassemble no instruction can be assembled"
         self.assertEqual(written, f"core: {said}\npatches 0\n")
 
 

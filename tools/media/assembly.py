@@ -9,9 +9,9 @@ as 1$, `.INCLUDE "NAME"` of another source beside it, and two that MACRO-11 lack
                                 IMMEDIATE, bit 6 if it is INNER; then the label"""
 import re
 from pathlib import Path
-from typing import Iterator, NamedTuple, Optional, Sequence
+from typing import Callable, Iterator, NamedTuple, Optional, Sequence
 
-from nezdrab.analysis.assembler import Assembly, assembled, in_numbers
+from nezdrab.analysis.assembler import Assembly, in_numbers, instruction_text
 from nezdrab.core.errors import ExploreError
 
 LABEL = re.compile(r"([A-Z][A-Z0-9]*|[0-9]+[$]):\s*")
@@ -65,12 +65,15 @@ def counted_text(text: str, flags: int = 0) -> bytes:
     return held + bytes(len(held) % 2)
 
 
+Words = Callable[[int, str], list[int]]  # of an address, and the text of an instruction there
+
+
 class Pass:
     """One reading of the source. The first one takes an unknown symbol for the address itself, and
     finds where the labels are; the second has them all."""
 
-    def __init__(self, known: Optional[dict[str, int]] = None):
-        self.known, self.at, self.scope = known, 0, ""
+    def __init__(self, words: Words, known: Optional[dict[str, int]] = None):
+        self.words, self.known, self.at, self.scope = words, known, 0, ""
         self.labels: dict[str, int] = {}
         self.constants: dict[str, int] = {LAST_HEADER: 0}
         self.lines: list[Line] = []
@@ -116,7 +119,8 @@ class Pass:
             return b""
         if found := DIRECTIVE.match(rest):
             return self.directive(found[1], found[2])
-        return of_words(*assembled(self.with_scope(rest), self.at, self.symbol).words)
+        text = instruction_text(self.with_scope(rest), self.at, self.symbol)
+        return of_words(*self.words(self.at, text))
 
     def assign(self, name: str, value: int) -> None:
         if name != ".":
@@ -161,8 +165,10 @@ def source_lines(folder: Path, name: str, may_include: bool = True) -> Iterator[
             yield from source_lines(folder, found[1], False)
 
 
-def read_once(lines: Sequence[SourceLine], known: Optional[dict[str, int]]) -> Pass:
-    reading = Pass(known)
+def read_once(
+    lines: Sequence[SourceLine], words: Words, known: Optional[dict[str, int]] = None
+) -> Pass:
+    reading = Pass(words, known)
     for line in lines:
         try:
             reading.take(line.text)
@@ -171,10 +177,10 @@ def read_once(lines: Sequence[SourceLine], known: Optional[dict[str, int]]) -> P
     return reading
 
 
-def program_of(lines: Sequence[SourceLine]) -> Program:
-    """What the source is after two readings."""
-    first = read_once(lines, None)
-    found = read_once(lines, {**first.constants, **first.labels})
+def program_of(lines: Sequence[SourceLine], words: Words) -> Program:
+    """What the source is after two readings. `words` are those that the program disassemble has."""
+    first = read_once(lines, words)
+    found = read_once(lines, words, {**first.constants, **first.labels})
     constants = {it: at for it, at in found.constants.items() if it != LAST_HEADER}
     labels = {it: at for it, at in found.labels.items() if "." not in it}
     return Program(found.lines, constants, labels)

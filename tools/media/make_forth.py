@@ -7,10 +7,14 @@ With --words it runs long/lost-note.session of the folder to its last event, and
 the words that are defined then from blocks of the disk, with the addresses of their code."""
 import re
 import sys
+from contextlib import closing
 from pathlib import Path
+from typing import Optional
 
 from media.assembly import Line, Program, program_of, source_lines
 from nezdrab import Machine
+from nezdrab.analysis.disassembly import Disassembler
+from nezdrab.core import programs
 from nezdrab.core.errors import ExploreError
 from nezdrab.core.symbol_files import symbol_file
 
@@ -93,8 +97,15 @@ def symbols_of(program: Program) -> str:
     return "".join(f"{name} {value:o}\n" for name, value in ordered)
 
 
+def kernel_of(folder: Path, disassembler: Optional[str] = None) -> Program:
+    """The kernel, assembled by this disassemble, or by the one that is found."""
+    lines = list(source_lines(folder, "forth.mac"))
+    with closing(Disassembler(programs.program_of("disassemble", disassembler))) as asked:
+        return program_of(lines, asked.assembled)
+
+
 def make(folder: Path, into: Path) -> None:
-    program = program_of(list(source_lines(folder, "forth.mac")))
+    program = kernel_of(folder)
     text = folder / "forth.fth"
     try:
         blocks = blocks_of(text.read_text(encoding="ascii"))
@@ -130,7 +141,7 @@ def words_of(machine: Machine, labels: dict[str, int]) -> str:
 
 
 def make_words(folder: Path, into: Path) -> None:
-    program = program_of(list(source_lines(folder, "forth.mac")))
+    program = kernel_of(folder)
     with Machine.of_session(folder / "long" / "lost-note.session") as machine:
         (into / "words.sym").write_text(words_of(machine, program.labels))
 

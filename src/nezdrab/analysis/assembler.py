@@ -1,16 +1,18 @@
-"""The one-line assembler: an instruction in the syntax of MACRO-11, as words."""
+"""The one-line assembler: an instruction in the syntax of MACRO-11, as the text that the program
+disassemble writes for it. Labels, symbols, numbers in sums and comments end here; the program knows
+the words of a text."""
 import re
 from typing import Callable
 
 from ..core.errors import ExploreError
 from ..core.language import MOST_DIGITS
-from ..core.values import dataclass, field
+from ..core.values import dataclass
 
 WORDS, LARGEST, SMALLEST = 0o200000, 0o177777, -0o100000
 REGISTERS = ("R0", "R1", "R2", "R3", "R4", "R5", "SP", "PC")
-NUMBERS_OF_REGISTERS = {
-    **{it: at for at, it in enumerate(REGISTERS)},
-    **{f"{letter}{at}": at for letter in "R%" for at in range(8)},
+NAMES_OF_REGISTERS = {
+    **{it: it for it in REGISTERS},
+    **{f"{letter}{at}": it for letter in "R%" for at, it in enumerate(REGISTERS)},
 }
 # A number, a label such as 1$, a symbol or `.`, and numbers after + and -.
 TERM = r"[0-9]+[.$]?|[A-Za-z_.$~?][A-Za-z0-9_.$~?]*"
@@ -25,18 +27,7 @@ PIECE = re.compile(
     r"(?<![\w.$~?%'\"])(?:'(?P<one>[ -~])|\"(?P<two>[ -~]{2}))(?![\w.$~?%'\"])|.", re.DOTALL
 )
 BLANKS = " \t"
-CODES = "NZVC"  # in the order of their bits, and of a text that has several
-
-Bits = tuple[int, str]  # a field of an instruction word, and its text
-
-
-@dataclass(frozen=True)
-class Assembled:
-    """The words of an instruction, and the text that the disassembler must have for them. The text
-    is made from what was typed, and not from the words."""
-
-    words: list[int]
-    text: str
+CODES = "NZVC"  # in the order of a text that has several
 
 
 def value_of(text: str) -> int:
@@ -72,17 +63,17 @@ def check_most(text: str, value: int, largest: int) -> None:
 @dataclass
 class Assembly:
     """An instruction in the making: its address, what gives the number of a symbol, its labels, and
-    the words so far that follow its own."""
+    how many words of operands follow its own so far."""
 
     address: int
     symbol: Callable[[str], int]
     labels: frozenset[str]
-    following: list[int] = field(default_factory=list)
+    following: int = 0
 
     @property
     def end(self) -> int:
         """The address after the words so far."""
-        return self.address + 2 + 2 * len(self.following)
+        return self.address + 2 + 2 * self.following
 
     # Numbers
 
@@ -108,21 +99,21 @@ class Assembly:
             raise ExploreError(f"no label {text}: stands before this instruction")
         return value_of(text) if text[0].isdigit() else self.symbol(text)
 
-    def limited(self, text: str, largest: int) -> Bits:
+    def limited(self, text: str, largest: int) -> str:
         value = self.number(text)
         check_most(text, value, largest)
-        return value, f"{value:o}"
+        return f"{value:o}"
 
-    def code(self, text: str) -> Bits:
+    def code(self, text: str) -> str:
         return self.limited(text, 0o377)
 
-    def count(self, text: str) -> Bits:
+    def count(self, text: str) -> str:
         return self.limited(text, 0o77)
 
     # Targets
 
-    def target(self, text: str, first: int, last: int) -> tuple[int, int]:
-        """The address of a target, and its distance in words, which must be in these bounds."""
+    def target(self, text: str, first: int, last: int) -> str:
+        """The address of a target, whose distance in words must be in these bounds."""
         target, begin = self.number(text), self.address + 2
         if target % 2:
             raise ExploreError(f"the target {target:o} is odd")
@@ -133,135 +124,104 @@ class Assembly:
                 f"the target {target:o} is too far: from {self.address:o} this instruction reaches"
                 f" {' to '.join(ends)}"
             )
-        return target, words
+        return f"{target:o}"
 
-    def branch(self, text: str) -> Bits:
-        target, words = self.target(text, -0o200, 0o177)
-        return words & 0o377, f"{target:o}"
+    def branch(self, text: str) -> str:
+        return self.target(text, -0o200, 0o177)
 
-    def loop(self, text: str) -> Bits:
-        target, words = self.target(text, -0o77, 0)
-        return -words, f"{target:o}"
+    def loop(self, text: str) -> str:
+        return self.target(text, -0o77, 0)
 
     # Operands with a mode
 
-    def register(self, text: str) -> Bits:
-        number = NUMBERS_OF_REGISTERS.get(text.strip(BLANKS).upper())
-        if number is None:
+    def register(self, text: str) -> str:
+        name = NAMES_OF_REGISTERS.get(text.strip(BLANKS).upper())
+        if name is None:
             raise ExploreError(f"'{text}' is no register: R0 to R7, SP and PC are")
-        return number, REGISTERS[number]
+        return name
 
-    def operand(self, text: str) -> Bits:
-        """Mode and register. A word of the operand is put after those that follow."""
+    def operand(self, text: str) -> str:
         at = text[:1] if text.startswith("@") else ""
-        bare, deferred = text[len(at) :], 0o10 if at else 0
+        bare = text[len(at) :]
         if bare.startswith("#"):
-            return 0o27 + deferred, f"{at}#{self.put(self.number(bare[1:])):o}"
-        if bare.upper() in NUMBERS_OF_REGISTERS:
-            register, name = self.register(bare)
-            return deferred + register, f"({name})" if at else name
+            return f"{at}#{self.put(self.number(bare[1:])):o}"
+        if bare.upper() in NAMES_OF_REGISTERS:
+            name = self.register(bare)
+            return f"({name})" if at else name
         match = MODED.fullmatch(bare)
         if match:
             return self.moded(text, at, match)
         if not NUMBER.fullmatch(bare):
             raise ExploreError(f"'{text}' is no operand")
-        target = self.number(bare)
-        self.put((target - self.end - 2) % WORDS)
-        return 0o67 + deferred, f"{at}{target:o}"
+        return f"{at}{self.put(self.number(bare)):o}"
 
-    def moded(self, text: str, at: str, match: "re.Match[str]") -> Bits:
+    def moded(self, text: str, at: str, match: "re.Match[str]") -> str:
         """What has a register in parentheses."""
         before, inside, plus = match.groups()
-        register, name = self.register(inside)
-        deferred = 0o10 if at else 0
+        name = self.register(inside)
         if plus and before:
             raise ExploreError(f"'{text}' is no operand")
-        if plus and register == 7:
+        if plus and name == "PC":
             raise ExploreError(f"'{text}' takes a word that isn't here: write {at}#N")
-        if plus:
-            return 0o20 + deferred + register, f"{at}({name})+"
-        if before == "-":
-            return 0o40 + deferred + register, f"{at}-({name})"
-        if not before and not at:
-            return 0o10 + register, f"({name})"
+        if plus or before == "-" or not (before or at):
+            return f"{at}{before}({name}){plus}"
         index = self.put(self.number(before or "0"))
-        shown = f"{(self.end + index) % WORDS:o}" if register == 7 else f"{index:o}({name})"
-        return 0o60 + deferred + register, f"{at}{shown}"
+        return f"{at}{(self.end + index) % WORDS:o}" if name == "PC" else f"{at}{index:o}({name})"
 
-    def put(self, word: int) -> int:
-        self.following.append(word)
-        return word
+    def put(self, number: int) -> int:
+        """The number, of which the operand has a word of its own."""
+        self.following += 1
+        return number
 
 
-Field = Callable[[Assembly, str], Bits]
+Field = Callable[[Assembly, str], str]
 
 
 @dataclass(frozen=True)
 class Format:
-    """Instructions with the same operands: what these are, the field of each and the bits that it
-    is moved by, and the words without them."""
+    """Instructions with the same operands: what these are, how each is read, and the names."""
 
     operands: str
-    fields: tuple[tuple[Field, int], ...]
-    opcodes: str
+    fields: tuple[Field, ...]
+    names: str
     usual: str = ""  # the operands of one that has none
 
-    def assembled(self, name: str, opcode: int, rest: str, making: Assembly) -> Assembled:
+    def text(self, name: str, rest: str, making: Assembly) -> str:
         typed = [it.strip(BLANKS) for it in rest.split(",")] if rest else []
         if len(typed) != len(self.fields) or "" in typed:
             comma = ", with a comma between them" if len(self.fields) > 1 else ""
             raise ExploreError(f"{name} takes {self.operands}{comma}")
-        texts = []
-        for (of, shift), operand in zip(self.fields, typed):
-            bits, text = of(making, operand)
-            opcode |= bits << shift
-            texts.append(text)
+        texts = [of(making, operand) for of, operand in zip(self.fields, typed)]
         begin = SHOWN_AS.get(name, f"{name} ")
-        return Assembled([opcode, *making.following], f"{begin}{','.join(texts)}".rstrip())
+        return f"{begin}{','.join(texts)}".rstrip()
 
 
 KINDS = (
-    Format("no operand", (), "HALT 0 WAIT 1 RTI 2 BPT 3 IOT 4 RESET 5 RTT 6 RETURN 207"),
+    Format("no operand", (), "HALT WAIT RTI BPT IOT RESET RTT RETURN"),
     Format(
         "one operand",
-        ((Assembly.operand, 0),),
-        "JMP 100 CALL 4700 SWAB 300 CLR 5000 COM 5100 INC 5200 DEC 5300 NEG 5400 ADC 5500 SBC 5600"
-        " TST 5700 ROR 6000 ROL 6100 ASR 6200 ASL 6300 MFPI 6500 MTPI 6600 SXT 6700 CLRB 105000"
-        " COMB 105100 INCB 105200 DECB 105300 NEGB 105400 ADCB 105500 SBCB 105600 TSTB 105700"
-        " RORB 106000 ROLB 106100 ASRB 106200 ASLB 106300",
+        (Assembly.operand,),
+        "JMP CALL SWAB CLR COM INC DEC NEG ADC SBC TST ROR ROL ASR ASL MFPI MTPI SXT"
+        " CLRB COMB INCB DECB NEGB ADCB SBCB TSTB RORB ROLB ASRB ASLB",
     ),
     Format(
         "a source and a destination",
-        ((Assembly.operand, 6), (Assembly.operand, 0)),
-        "MOV 10000 CMP 20000 BIT 30000 BIC 40000 BIS 50000 ADD 60000 MOVB 110000 CMPB 120000"
-        " BITB 130000 BICB 140000 BISB 150000 SUB 160000",
+        (Assembly.operand, Assembly.operand),
+        "MOV CMP BIT BIC BIS ADD MOVB CMPB BITB BICB BISB SUB",
     ),
-    Format(
-        "a register and a destination",
-        ((Assembly.register, 6), (Assembly.operand, 0)),
-        "JSR 4000 XOR 74000",
-    ),
-    Format(
-        "a source and a register",
-        ((Assembly.operand, 0), (Assembly.register, 6)),
-        "MUL 70000 DIV 71000 ASH 72000 ASHC 73000",
-    ),
-    Format("a register", ((Assembly.register, 0),), "RTS 200"),
+    Format("a register and a destination", (Assembly.register, Assembly.operand), "JSR XOR"),
+    Format("a source and a register", (Assembly.operand, Assembly.register), "MUL DIV ASH ASHC"),
+    Format("a register", (Assembly.register,), "RTS"),
     Format(
         "an address",
-        ((Assembly.branch, 0),),
-        "BR 400 BNE 1000 BEQ 1400 BGE 2000 BLT 2400 BGT 3000 BLE 3400 BPL 100000 BMI 100400"
-        " BHI 101000 BLOS 101400 BVC 102000 BVS 102400 BCC 103000 BCS 103400",
+        (Assembly.branch,),
+        "BR BNE BEQ BGE BLT BGT BLE BPL BMI BHI BLOS BVC BVS BCC BCS",
     ),
-    Format("a register and an address", ((Assembly.register, 6), (Assembly.loop, 0)), "SOB 77000"),
-    Format("a number", ((Assembly.code, 0),), "EMT 104000 TRAP 104400", usual="0"),
-    Format("a number", ((Assembly.count, 0),), "MARK 6400"),
+    Format("a register and an address", (Assembly.register, Assembly.loop), "SOB"),
+    Format("a number", (Assembly.code,), "EMT TRAP", usual="0"),
+    Format("a number", (Assembly.count,), "MARK"),
 )
-INSTRUCTIONS = {
-    name: (kind, int(opcode, 8))
-    for kind in KINDS
-    for name, opcode in zip(kind.opcodes.split()[::2], kind.opcodes.split()[1::2])
-}
+INSTRUCTIONS = {name: kind for kind in KINDS for name in kind.names.split()}
 OTHER_NAMES = {"BHIS": "BCC", "BLO": "BCS"}
 SHOWN_AS = {"CALL": "JSR PC,", "RETURN": "RTS PC"}
 # The operators of condition codes, and the letters of the codes that each clears or sets.
@@ -276,7 +236,7 @@ def is_mnemonic(word: str) -> bool:
     return name in INSTRUCTIONS or name in OTHER_NAMES or name in OPERATORS
 
 
-def operators_together(names: list[str]) -> Assembled:
+def operators_together(names: list[str]) -> str:
     """Operators that clear condition codes, or set them, as one instruction."""
     wrong = next((it for it in names if it not in OPERATORS), None)
     if wrong is not None:
@@ -285,15 +245,14 @@ def operators_together(names: list[str]) -> Assembled:
     if len(sets) > 1:
         raise ExploreError("one instruction clears condition codes or sets them, not both")
     codes = {code for it in names for code in OPERATORS[it]}
-    bits = sum(0o10 >> at for at, it in enumerate(CODES) if it in codes)
     all_of_them, verb = ("SCC", "SE") if True in sets else ("CCC", "CL")
     joined = " ".join(f"{verb}{it}" for it in CODES if it in codes) or "NOP"
-    word = (0o260 if True in sets else 0o240) | bits
-    return Assembled([word], all_of_them if len(codes) == len(CODES) else joined)
+    return all_of_them if len(codes) == len(CODES) else joined
 
 
-def assembled(text: str, address: int, symbol: Callable[[str], int]) -> Assembled:
-    """The instruction that this text is at this address. `symbol` gives the number of one."""
+def instruction_text(text: str, address: int, symbol: Callable[[str], int]) -> str:
+    """The instruction that this text is at this address, as the disassembler writes it. `symbol`
+    gives the number of one."""
     if not text.isascii():
         raise ExploreError("an instruction has ASCII characters alone")
     bare, labels = in_numbers(text), set[str]()
@@ -309,6 +268,6 @@ def assembled(text: str, address: int, symbol: Callable[[str], int]) -> Assemble
     name = OTHER_NAMES.get(typed.upper(), typed.upper())
     if name not in INSTRUCTIONS:
         raise ExploreError(f"there is no instruction '{typed}' of the PDP-11/40")
-    kind, opcode = INSTRUCTIONS[name]
+    kind = INSTRUCTIONS[name]
     making = Assembly(address, symbol, frozenset(labels))
-    return kind.assembled(name, opcode, "".join(more) or kind.usual, making)
+    return kind.text(name, "".join(more) or kind.usual, making)

@@ -1,4 +1,5 @@
-"""The program disassemble as a child process."""
+"""The program disassemble as a child process: texts of words, and words of texts."""
+import re
 from functools import cached_property
 from typing import Callable, Optional, Sequence
 
@@ -6,6 +7,8 @@ from ..core.program import Child, ProgramEnded
 from ..core.programs import program_of
 from ..core.errors import ExploreError
 from ..core.values import dataclass
+
+WORD = re.compile("[0-7]{6}")
 
 
 @dataclass(frozen=True)
@@ -34,38 +37,17 @@ class Disassemble(Child):
         return line[:-1].decode("ascii", "backslashreplace")
 
 
-class Disassembler:
-    """Asks the program disassemble. Without it instructions are shown as `.WORD`."""
+class Asked:
+    """A disassemble with these options. It is started by the first line."""
 
-    def __init__(
-        self, program: Optional[str], later: Optional[Callable[[], Optional[str]]] = None
-    ):
-        self._given, self._later = program, later
-        self.child = Disassemble([program]) if program else None
-        self.known: dict[tuple[int, ...], Instruction] = {}
-
-    @cached_property
-    def program(self) -> Optional[str]:
-        """The path of the program, or None. It may be looked for only when it is needed first."""
-        return self._later() if self._later else self._given
-
-    def instruction(self, address: int, words: Sequence[int]) -> Instruction:
-        """The instruction at this virtual address, from its word and the two that follow."""
-        if self.program is None:
-            return Instruction(1, f".WORD {words[0]:06o}")
-        key = (address, *words)
-        if key not in self.known:
-            reply = self.reply(self.program, " ".join(f"{it:06o}" for it in key))
-            count, _, text = reply.partition(" ")
-            if not count.isdigit():
-                raise ExploreError(f"the disassembler answers {key} with '{reply}'")
-            self.known[key] = Instruction(int(count), text)
-        return self.known[key]
+    def __init__(self, *options: str):
+        self.options = options
+        self.child: Optional[Disassemble] = None
 
     def reply(self, program: str, line: str) -> str:
         """The reply to a line. If the program ends, or Ctrl-C comes before the reply, the next line
         starts it again: otherwise it would get the reply to this one."""
-        self.child = self.child or Disassemble([program])
+        self.child = self.child or Disassemble([program, *self.options])
         try:
             self.child.send(line)
             return self.child.line()
@@ -79,6 +61,48 @@ class Disassembler:
         if self.child is not None:
             self.child.close()
             self.child = None
+
+
+class Disassembler:
+    """Asks the program disassemble. Without it instructions are shown as `.WORD`."""
+
+    def __init__(
+        self, program: Optional[str], later: Optional[Callable[[], Optional[str]]] = None
+    ):
+        self._given, self._later = program, later
+        self.texts, self.words = Asked(), Asked("--assemble")
+        self.known: dict[tuple[int, ...], Instruction] = {}
+
+    @cached_property
+    def program(self) -> Optional[str]:
+        """The path of the program, or None. It may be looked for only when it is needed first."""
+        return self._later() if self._later else self._given
+
+    def instruction(self, address: int, words: Sequence[int]) -> Instruction:
+        """The instruction at this virtual address, from its word and the two that follow."""
+        if self.program is None:
+            return Instruction(1, f".WORD {words[0]:06o}")
+        key = (address, *words)
+        if key not in self.known:
+            reply = self.texts.reply(self.program, " ".join(f"{it:06o}" for it in key))
+            count, _, text = reply.partition(" ")
+            if not count.isdigit():
+                raise ExploreError(f"the disassembler answers {key} with '{reply}'")
+            self.known[key] = Instruction(int(count), text)
+        return self.known[key]
+
+    def assembled(self, address: int, text: str) -> list[int]:
+        """The words of the instruction that is shown as this text at this virtual address."""
+        if self.program is None:
+            raise ExploreError("without the program disassemble no instruction can be assembled")
+        words = self.words.reply(self.program, f"{address:o} {text}").split(" ")
+        if not all(map(WORD.fullmatch, words)):
+            raise ExploreError(f"no instruction at {address:o} is '{text}'")
+        return [int(it, 8) for it in words]
+
+    def close(self) -> None:
+        self.texts.close()
+        self.words.close()
 
 
 def disassembler_of(given: Optional[str], say: Callable[[str], None]) -> Disassembler:

@@ -4,10 +4,10 @@ import struct
 from pathlib import Path
 from typing import Iterator
 
-from ..analysis.assembler import LABEL, LABEL_OR_NAME, Assembled, assembled, is_mnemonic
+from ..analysis.assembler import LABEL, LABEL_OR_NAME, instruction_text, is_mnemonic
 from ..analysis.command import Arguments, command
 from ..analysis.explorer import Explorer
-from ..analysis.listing import INSTRUCTION_WORDS, VIRTUAL, listed_line
+from ..analysis.listing import VIRTUAL, listed_line
 from ..core.all_words import core_words, drive_image
 from ..analysis.restart import edit_whole
 from ..core.errors import ExploreError
@@ -40,8 +40,8 @@ def core(explorer: Explorer, arguments: Arguments) -> Iterator[str]:
     together have a space between them: CLV CLC. BHIS is BCC, BLO is BCS, %5 is R5, CALL is JSR PC
     and RETURN is RTS PC.
     Addresses count from A modulo 200000, as in `list A C`: pages that move A aren't looked at.
-    The disassembler must show the words as this instruction, or nothing is changed, and what is
-    shown is its text. `undo` takes the patches back as one."""
+    The words are those of the text that `list` shows then. `undo` takes the patches back as
+    one."""
     if arguments.optional("instruction"):
         return patch(explorer, arguments.octal("address"), arguments.text("instruction"))
     path, turn = Path(arguments.text("file")), arguments.decimal("turn")
@@ -86,33 +86,18 @@ def check_place(explorer: Explorer, address: int, count: int) -> None:
         )
 
 
-def check_text(explorer: Explorer, address: int, made: Assembled) -> None:
-    """An error if the disassembler has another instruction for these words."""
-    disassembler = explorer.disassembler
-    if disassembler.program is None:
-        raise ExploreError("without the program disassemble no instruction can be checked")
-    words = (made.words + [0] * INSTRUCTION_WORDS)[:INSTRUCTION_WORDS]
-    found = disassembler.instruction(address, words)
-    if (found.words, found.text) != (len(made.words), made.text):
-        octal = " ".join(f"{it:06o}" for it in made.words)
-        raise ExploreError(
-            f"{made.text} would be {octal}, and the disassembler shows them as {found.text}:"
-            " nothing was changed"
-        )
-
-
 def patch(explorer: Explorer, address: int, text: str) -> Iterator[str]:
     """Makes patches of an instruction, all of them or none."""
     machine, virtual = explorer.machine, address % VIRTUAL
-    made = assembled(text, virtual, explorer.symbols.number)
-    check_place(explorer, address, len(made.words))
-    check_text(explorer, virtual, made)
-    lines = [f"core {address + 2 * at:o} {it:06o}" for at, it in enumerate(made.words)]
+    shown = instruction_text(text, virtual, explorer.symbols.number)
+    words = explorer.disassembler.assembled(virtual, shown)
+    check_place(explorer, address, len(words))
+    lines = [f"core {address + 2 * at:o} {it:06o}" for at, it in enumerate(words)]
     with INTERRUPTS.held():
         if explorer.is_terminal:
             edit_whole(machine, lines, lambda: explorer.fading.make(machine, lines))
         else:
             edit_whole(machine, lines)
-    yield listed_line(address, made.words, made.text)
+    yield listed_line(address, words, shown)
     if explorer.is_terminal:
         yield from explorer.fading.said(machine)
