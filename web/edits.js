@@ -302,7 +302,7 @@ const kept = ({ line, event }) => ({ line, event });
 
 /** The edit that was kept, which isn't made yet.
     @param {KeptEdit} edit @returns {Edit} */
-const restored = ({ line, event }) => ({ line, event, back: null, before: 0 });
+const restored = ({ line, event }) => ({ line, event, before: 0 });
 
 /** The lines of what the user did at once: one, or how many there are, with the first of them
     folded.

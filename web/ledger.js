@@ -1,18 +1,18 @@
 // The one ledger of edits: those that the program took, the past that they made as the program told
 // it, and what the user did with them.
 
-import { PAST_LINES, Past, linesThatTell, wordsOfLine } from "./past.js";
+import { PAST_LINES, Past, isEdit, linesThatTell, wordsOfLine } from "./past.js";
 import { LAST_TURN } from "./replies.js";
 
 /**
- * An edit that the program took, with its reply.
- * @typedef {{line: string, reply: string}} Taken
+ * An edit that the program took, with its reply, and the first turn that it may change.
+ * @typedef {{line: string, reply: string, turn: number}} Taken
  */
 
 /**
- * An edit of the user, the lines that take it back, the number of the event that it made, and how
- * many edits were taken before it. No lines take it back if they are null.
- * @typedef {{line: string, back: string[] | null, event: string | undefined, before: number}} Edit
+ * An edit of the user, the number of the event that it made, and how many edits were taken before
+ * it.
+ * @typedef {{line: string, event: string | undefined, before: number}} Edit
  */
 
 /**
@@ -35,8 +35,10 @@ const numberIn = ({ line, event }) =>
 
 export class Ledger {
   constructor() {
-    /** @type {Taken[]} every edit that the program took; a machine adds those that it takes */
+    /** @type {Taken[]} the edits that the program took, without those that it took back */
     this.taken = [];
+    /** @type {Taken[]} those that it took back, of which the last is made again by `redo` */
+    this.takenBack = [];
     /** How many edits made another past. */
     this.pasts = 0;
     /** The past as the program told it last, and the lines that tell it otherwise by now. */
@@ -60,11 +62,24 @@ export class Ledger {
     return this.taken.map(it => it.line);
   }
 
-  /** The program took an edit. Returns the first turn that it may change.
-      @param {string} line */
-  note(line) {
+  /** The program took an edit, took one back or made it again. Returns the first turn that this
+      may change.
+      @param {string} line @param {string} reply */
+  note(line, reply) {
+    const isUndo = wordsOfLine(line)[0] === "undo", { taken, takenBack } = this;
+    const again = isEdit(line) ? null : (isUndo ? taken : takenBack).pop() ?? null;
+    const edit = again ?? { line, reply, turn: this.firstTurnOf(line) };
     this.pasts += 1;
-    for (const it of linesThatTell(line)) this.untold.add(it);
+    for (const it of linesThatTell(edit.line)) this.untold.add(it);
+    if (again) this.lowest = Math.min(this.lowest, again.turn);
+    else this.takenBack = [];
+    (isUndo ? takenBack : taken).push(edit);
+    return edit.turn;
+  }
+
+  /** The first turn that an edit may change.
+      @param {string} line */
+  firstTurnOf(line) {
     const [word, first, second] = wordsOfLine(line);
     // an event that isn't told yet, or was moved since, may be in the lowest turn
     const before = Math.min(this.lowest, this.past.events.get(Number(first))?.turn ?? LAST_TURN);
@@ -87,6 +102,7 @@ export class Ledger {
   restart() {
     const { lines } = this;
     this.taken = [];
+    this.takenBack = [];
     this.untold = new Set(PAST_LINES);
     return lines;
   }
@@ -109,15 +125,6 @@ export class Ledger {
     this.changes.push(edits);
   }
 
-  /** What was tried is put back: none of its edits is left, unless one has used up the number of an
-      event. */
-  endTrial() {
-    const { tried, taken } = this;
-    this.tried = null;
-    if (!tried || taken.slice(tried.before).some(it => wordsOfLine(it.line)[0] === "at")) return;
-    taken.length = Math.min(taken.length, tried.before);
-  }
-
   /** All that the user did: what is in the past, what was undone, and what is off. */
   get edits() {
     return [...this.changes, ...this.undone, ...this.off.map(it => it.change)].flat();
@@ -138,7 +145,6 @@ export class Ledger {
   renumber(number, given) {
     for (const edit of this.edits) {
       edit.line = renumbered(edit.line, number, given);
-      edit.back = edit.back?.map(it => renumbered(it, number, given)) ?? null;
       if (edit.event === number) edit.event = given;
     }
   }

@@ -1,7 +1,5 @@
 // The page's side of a program in a worker. It never blocks the page.
 import { newWorker, packedModule } from "./packed.js";
-import { isEdit } from "./past.js";
-import { isRefused } from "./replies.js";
 
 /**
  * What waits for its replies.
@@ -27,7 +25,7 @@ export class Ended extends Error {
 export class Machine {
   /**
    * `program` is search or disassemble; `arguments` are the words of its command line, `files` the
-   * bytes of the files that they name. Each edit that is taken is added to `taken`.
+   * bytes of the files that they name. `taken` are the edits that hold: a new worker takes them up.
    * @param {{program?: string, arguments?: string[], files?: Object<string, Uint8Array>,
    *   taken?: import("./ledger.js").Taken[]}} start
    */
@@ -41,20 +39,6 @@ export class Machine {
     this.asked = new Map();
     this.worker = this.newWorker();
     this.started = this.begin();
-  }
-
-  /** Resolves with the reply to each line: with its line feeds, and empty for a comment. Rejects
-      with Stopped or Ended; then none of these lines is an edit that holds.
-      @param {string[]} lines */
-  async ask(lines) {
-    const replies = await this.send(lines);
-    lines.forEach((line, at) => this.keep(line, replies[at]));
-    return replies;
-  }
-
-  /** The edits that hold, as lines of a session. */
-  get edits() {
-    return this.taken.map(it => it.line);
   }
 
   /** Stops what is asked. A new worker takes up the edits, and what is asked from now on. */
@@ -92,8 +76,10 @@ export class Machine {
     return started;
   }
 
-  /** @param {string[]} lines @returns {Promise<string[]>} */
-  send(lines) {
+  /** Resolves with the reply to each line: with its line feeds, and empty for a comment. Rejects
+      with Stopped or Ended; then none of these lines is an edit that holds.
+      @param {string[]} lines @returns {Promise<string[]>} */
+  ask(lines) {
     if (this.closed) return Promise.reject(this.closed);
     const id = ++this.lastId, { worker } = this;
     this.started.then(() => worker.postMessage({ id, lines }), () => {});
@@ -111,16 +97,11 @@ export class Machine {
     asked?.resolve(replies);
   }
 
-  /** @param {string} line @param {string} reply */
-  keep(line, reply) {
-    if (isEdit(line) && !isRefused(reply)) this.taken.push({ line, reply });
-  }
-
   /** The edits must have the same replies again, since later lines name their events. */
   async takeUp() {
     const edits = [...this.taken];
     try {
-      const replies = await this.send(edits.map(it => it.line));
+      const replies = await this.ask(edits.map(it => it.line));
       if (edits.every(({ reply }, at) => reply === replies[at])) return;
       this.close(new Error("the edits can't be made again"));
     } catch {

@@ -11,7 +11,11 @@ import { eventsOf, keyName, patchesOf, setupOf } from "./replies.js";
  */
 
 const EDITS_OF_SCRIPT = new Set(["at", "alter", "drop"]);
-const EDITS = new Set(LINES.filter(it => it.kind === "edit").map(it => it.form.split(" ")[0]));
+/** The first words of the lines of a kind.
+    @param {string} kind */
+const wordsOfKind = kind =>
+  new Set(LINES.filter(it => it.kind === kind).map(it => it.form.split(" ")[0]));
+const EDITS = wordsOfKind("edit"), STEPS = wordsOfKind("step");
 /**
  * The lines that tell the past, and what each reply has of it.
  * @type {Object<string, (reply: string) => Partial<Past>>}
@@ -42,9 +46,13 @@ export const isEdit = line => EDITS.has(wordOfLine(line));
 export const linesThatTell = line =>
   EDITS_OF_SCRIPT.has(wordOfLine(line)) ? ["events"] : ["setup", "patches"];
 
+/** Whether a line takes an edit back, or makes it again.
+    @param {string} line */
+export const isStep = line => STEPS.has(wordOfLine(line));
+
 /** Whether a line runs no turns, whatever the past is.
     @param {string} line */
-export const runsNothing = line => isEdit(line) || PAST_LINES.includes(line);
+export const runsNothing = line => isEdit(line) || isStep(line) || PAST_LINES.includes(line);
 
 /** An event with the name of its key, such as `key 66 '6'`.
     @param {ScriptEvent} event */
@@ -101,21 +109,6 @@ export class Past {
   told(lines, replies, tape) {
     const parts = lines.map((it, at) => TOLD[it](replies[at]));
     return Object.assign(new Past(), this, { tape }, ...parts);
-  }
-
-  /** The lines that take back a move of an event, asked before that is made: the event as it was,
-      and after it those that came after it in the same turn. Null if there is no such event.
-      @param {number} number */
-  inverseOfMove(number) {
-    const event = this.events.get(number);
-    if (!event) return null;
-    const ofTurn = eventsIn(this.script, event.turn, event.turn);
-    const later = ofTurn.slice(ofTurn.indexOf(event) + 1);
-    /** @param {ScriptEvent} it */
-    const away = it => `alter ${it.number} ${Math.abs(it.turn - 1)} ${it.text}`;
-    /** @param {ScriptEvent} it */
-    const again = it => `alter ${it.number} ${it.turn} ${it.text}`;
-    return [again(event), ...later.flatMap(it => [away(it), again(it)])];
   }
 
   /** The lines of the patches that make the setup of another past this one, or null if it takes

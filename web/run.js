@@ -2,8 +2,7 @@
 
 import { Ledger } from "./ledger.js";
 import { Machine, Stopped } from "./machine.js";
-import { makePatches, patchesAhead } from "./patching.js";
-import { isEdit, runsNothing, wordsOfLine } from "./past.js";
+import { isEdit, isStep, runsNothing, wordOfLine } from "./past.js";
 import {
   askedAtOnce, byteAsked, earlyQuestion, isSearch, searchOf, turnsAsked,
 } from "./questions.js";
@@ -58,7 +57,7 @@ export class Run {
     return this.ledger.past;
   }
 
-  /** A machine that has taken nothing. It adds the edits that it takes to the ledger. */
+  /** A machine that has taken nothing. */
   newMachine() {
     const { arguments: words, files } = this.setup, { taken } = this.ledger;
     return new Machine({ program: "search", arguments: words, files, taken });
@@ -303,7 +302,7 @@ export class Run {
     const replies = ended.map(it => it.endsWith("\n") ? it.slice(0, -1) : it);
     lines.forEach((line, at) => {
       if (isRefused(replies[at])) return;
-      if (isEdit(line)) this.take(line);
+      if (isEdit(line) || isStep(line)) this.take(line, ended[at]);
       else this.reached.learn(line, replies[at]);
     });
     return replies;
@@ -346,12 +345,13 @@ export class Run {
     return this.past;
   }
 
-  /** An edit was taken: what is known of the turns that it may change no longer holds.
-      @param {string} line */
-  take(line) {
+  /** An edit was taken, or taken back: what is known of the turns that it may change no longer
+      holds.
+      @param {string} line @param {string} reply */
+  take(line, reply) {
     // lines about a drive have another form from now on
-    if (wordsOfLine(line)[0] === "version") this.giveUp();
-    this.reached.forgetFrom(this.ledger.note(line));
+    if (wordOfLine(line) === "version") this.giveUp();
+    this.reached.forgetFrom(this.ledger.note(line, reply));
   }
 
   /**
@@ -360,22 +360,19 @@ export class Run {
    * @param {string} line @param {string[]} asked
    */
   async preview(line, asked = []) {
-    const { ledger } = this;
-    if (ledger.tried && !isSameMove(ledger.tried.line, line)) await this.putBack();
-    if (ledger.tried) mustBeTaken(await this.askOne(line, Priority.EDIT));
-    else {
-      const { reply, edit } = await this.make(line);
-      mustBeTaken(reply);
-      ledger.tried = edit;
-    }
+    await this.putBack();
+    const { reply, edit } = await this.make(line);
+    mustBeTaken(reply);
+    this.ledger.tried = edit;
     return this.ask(asked, Priority.EDIT);
   }
 
-  /** Puts back the event that was tried. */
+  /** Takes back what was tried. */
   async putBack() {
-    if (!this.ledger.tried) return;
-    (await this.askEdits(this.ledger.tried.back ?? [])).forEach(mustBeTaken);
-    this.ledger.endTrial();
+    const { tried } = this.ledger;
+    if (!tried) return;
+    await this.takeBackTo(tried.before);
+    this.ledger.tried = null;
   }
 
   /**
@@ -390,40 +387,54 @@ export class Run {
     return reply;
   }
 
-  /** Makes patches of different words of core, which one undo takes back. Returns how many.
+  /** Makes edits that one undo takes back. Returns how many.
       @param {string[]} lines */
   async commitAll(lines) {
     await this.putBack();
-    const { edits, refused } = await makePatches(this, lines);
+    const { edits, replies } = await this.makeAll(lines);
     this.ledger.addAll(edits);
-    refused.forEach(mustBeTaken);
+    replies.forEach(mustBeTaken);
     return edits.length;
   }
 
-  /**
-   * Makes an edit. Returns its reply, and the edit if it was taken.
-   * @param {string} line @returns {Promise<{reply: string, edit: Edit | null}>}
-   */
+  /** Makes an edit. Returns its reply, and the edit if it was taken.
+      @param {string} line */
   async make(line) {
-    const before = this.ledger.taken.length, [word, number] = wordsOfLine(line);
-    const moved = word === "alter" ? (await this.askPast()).inverseOfMove(Number(number)) : null;
-    const reply = await this.askOne(line, Priority.EDIT);
-    if (isRefused(reply)) return { reply, edit: null };
-    const event = word === "at" ? String(eventOf(reply)) : undefined;
-    return { reply, edit: { line, back: event ? [`drop ${event}`] : moved, event, before } };
+    const { edits: [edit = null], replies: [reply] } = await this.makeAll([line]);
+    return { reply, edit };
   }
 
-  /** Takes back what the user did, from a place on: if none is given, what was done last. If no
-      line takes back one of the edits, the machine begins anew with those before them: so an event
-      that was taken out has its number again.
+  /** Makes edits together. Returns the replies, and the edits that were taken.
+      @param {string[]} lines */
+  async makeAll(lines) {
+    let before = this.ledger.taken.length;
+    const replies = await this.askEdits(lines);
+    /** @type {Edit[]} */
+    const edits = lines.flatMap((line, at) => {
+      if (isRefused(replies[at])) return [];
+      const event = wordOfLine(line) === "at" ? String(eventOf(replies[at])) : undefined;
+      return [{ line, event, before: before++ }];
+    });
+    return { edits, replies };
+  }
+
+  /** Takes back the edits that were taken last, down to so many. If the program has no past before
+      them, as before another version, the machine begins anew with the edits that are left.
+      @param {number} count */
+  async takeBackTo(count) {
+    const { taken } = this.ledger;
+    const replies = await this.askEdits(taken.slice(count).map(() => "undo"));
+    if (!replies.some(isRefused)) return;
+    taken.length = count;
+    await this.startAgain();
+  }
+
+  /** Takes back what the user did, from a place on: if none is given, what was done last.
       @param {number} [place] */
   async undo(place = Math.max(0, this.ledger.changes.length - 1)) {
     await this.putBack();
-    const { changes, undone } = this.ledger, edits = changes.slice(place).flat().reverse();
-    if (edits.some(it => !it.back)) {
-      this.ledger.taken.length = edits[edits.length - 1].before;
-      await this.startAgain();
-    } else (await this.askEdits(edits.flatMap(it => it.back ?? []))).forEach(mustBeTaken);
+    const { changes, undone } = this.ledger, [first] = changes.slice(place).flat();
+    if (first) await this.takeBackTo(first.before);
     undone.push(...changes.splice(place).reverse());
   }
 
@@ -431,29 +442,29 @@ export class Run {
       edits of it that are refused. */
   async redo() {
     await this.putBack();
-    const { changes, undone } = this.ledger, wanted = undone.at(-1) ?? [], all = [...wanted];
+    const { changes, undone } = this.ledger, wanted = undone.at(-1) ?? [];
     /** @type {Edit[]} */
     const change = [];
+    /** @type {Edit[]} */
+    const refused = [];
     changes.push(change);
     while (wanted.length) {
-      const patches = patchesAhead(wanted);
-      if (patches.length) {
-        change.push(...(await makePatches(this, patches)).edits);
-        wanted.splice(0, patches.length);
-        continue;
+      // what comes after an event that is made may name it by another number
+      const made = wanted.findIndex(it => it.event), count = made < 0 ? wanted.length : made + 1;
+      const part = wanted.slice(0, Math.min(count, MOST_EDITS));
+      const { edits, replies } = await this.makeAll(part.map(it => it.line));
+      const event = part[part.length - 1].event, given = edits.at(-1)?.event;
+      if (event && given && event !== given) {
+        this.ledger.give(given);
+        this.ledger.renumber(event, given);
       }
-      const { edit } = await this.make(wanted[0].line), { event } = wanted[0];
-      if (event && edit?.event && event !== edit.event) {
-        this.ledger.give(edit.event);
-        this.ledger.renumber(event, edit.event);
-      }
-      wanted.shift();
-      if (edit) change.push(edit);
+      wanted.splice(0, part.length);
+      change.push(...edits);
+      refused.push(...part.filter((_, at) => isRefused(replies[at])));
     }
     undone.pop();
     if (!change.length) changes.pop();
-    const made = new Set(change.map(it => it.line));
-    return all.filter(it => !made.has(it.line));
+    return refused;
   }
 
   /** Gives up what is asked. Edits go on: they run nothing. */
@@ -485,11 +496,4 @@ export class Run {
     for (const job of this.jobs.splice(0)) job.reject(new Stopped());
     this.machine.close();
   }
-}
-
-/** Whether two edits put the same event into a turn: the later one takes the place of the other.
-    @param {string} one @param {string} other */
-function isSameMove(one, other) {
-  const [verb, number] = wordsOfLine(one), [again, same] = wordsOfLine(other);
-  return verb === "alter" && again === verb && same === number;
 }

@@ -52,7 +52,6 @@ export const letterOf = outcome => LETTERS[outcome] ?? `#${outcome + 1}`;
 
 /**
  * @typedef {import("./past.js").ScriptEvent} ScriptEvent
- * @typedef {import("./machine.js").Machine} Machine
  * @typedef {import("./run.js").Run} Run
  * @typedef {{from: number, to: number, outcome: number}} Stretch turns with one outcome
  * @typedef {{place: HTMLElement, turns: HTMLElement, reply: HTMLElement}} Row
@@ -75,8 +74,8 @@ export class Sweep {
     this.numbers = new Map();
     /** When the outcomes were shown last. */
     this.shown = 0;
-    /** @type {{machine: Machine | null, taken: number}} whose past it is, of how many edits */
-    this.isOf = { machine: null, taken: 0 };
+    /** @type {string[]} the edits of the past that it is of */
+    this.isOf = [];
     // where the outcomes are shown: the table's rows, each by its first turn, and what is left out
     this.body = make("tbody");
     /** @type {Map<number, Row>} */
@@ -120,11 +119,13 @@ export class Sweep {
   pastChanged() {
     this.showChosen();
     if (!this.event) return;
-    const { machine, ledger: { lines } } = this.app.session.run, { isOf } = this;
-    const moves = `alter ${this.event.number} `, more = lines.slice(isOf.taken);
-    const isMoved = machine === isOf.machine && more.every(it => it.startsWith(moves));
-    if (!isMoved) this.clear();
-    this.isOf = { machine: isOf.machine, taken: lines.length };
+    const { ledger: { lines } } = this.app.session.run, { isOf } = this;
+    const moves = `alter ${this.event.number} `;
+    const differs = lines.findIndex((it, at) => it !== isOf[at]);
+    const same = differs < 0 ? lines.length : differs;
+    const others = [...isOf.slice(same), ...lines.slice(same)];
+    if (others.every(it => it.startsWith(moves))) this.isOf = lines;
+    else this.clear();
   }
 
   stopped() {
@@ -158,11 +159,11 @@ export class Sweep {
     const complaint = this.complaint(event, [from, to], question);
     if (!event || complaint) return this.say(complaint);
     this.end();
-    const { session } = app, run = session.newRun(), { machine, ledger: { lines } } = session.run;
+    const { session } = app, run = session.newRun(), { ledger: { lines } } = session.run;
     this.run = run;
     this.question = question;
     this.event = { ...event };
-    this.isOf = { machine, taken: lines.length };
+    this.isOf = lines;
     this.outcomes = new Map();
     this.numbers = new Map();
     this.replies = [];

@@ -40,12 +40,6 @@ export function test_only_what_is_told_anew_changes() {
   equal([past.lines(), before.script.length], [["delay disk 200", "core 1000 5"], 2]);
 }
 
-export function test_a_move_is_taken_back_by_lines() {
-  const past = pastOf(MOVED);
-  equal(past.inverseOfMove(1), ["alter 1 9 key 66", "alter 2 8 tick", "alter 2 9 tick"]);
-  equal([past.inverseOfMove(2), past.inverseOfMove(3)], [["alter 2 9 tick"], null]);
-}
-
 /** The events of a turn are in their order again. */
 export async function test_an_undo_keeps_the_order_of_a_turn() {
   const run = new NotingRun({});
@@ -63,8 +57,7 @@ export async function test_an_undo_keeps_the_order_of_a_turn() {
 const stateOf = async run =>
   [(await run.askPast()).script.map(it => `${it.turn} ${it.text}`), run.ledger.lines];
 
-/** A tape, or version 2, is taken back by a machine that begins anew: so is an event that was taken
-    out, and each has its number again. */
+/** Version 2 is taken back by a machine that begins anew. Each event has its number again. */
 export async function test_no_edit_is_lost_by_undo_and_redo() {
   const run = new NotingRun({}), lines = ["version 2", "drop 2"];
   await run.load(["at 9 key 66", "at 9 tick", "at 9 key 101"]);
@@ -148,15 +141,14 @@ export async function test_what_is_tried_is_no_edit() {
   equal((await stateOf(run))[0], before[0]);
 }
 
-/** An event that is tried is gone again, and its number is used up. */
+/** An event that is tried is gone again, and another one has its number. */
 export async function test_an_event_is_tried() {
   const run = new NotingRun({});
   await run.load(["at 9 key 66"]);
   await run.preview("at 5 tick");
   equal((await stateOf(run))[0], ["5 tick", "9 key 66"]);
-  equal(await run.commit("at 7 tick"), "event 3");
-  equal(await stateOf(run),
-    [["7 tick", "9 key 66"], ["at 9 key 66", "at 5 tick", "drop 2", "at 7 tick"]]);
+  equal(await run.commit("at 7 tick"), "event 2");
+  equal(await stateOf(run), [["7 tick", "9 key 66"], ["at 9 key 66", "at 7 tick"]]);
   await run.undo();
   await run.redo();
   equal((await stateOf(run))[0], ["7 tick", "9 key 66"]);

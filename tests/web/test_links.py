@@ -35,7 +35,7 @@ class Links(LinksCase):
         self.browser.wait("!document.querySelectorAll('#edits li').length")
         self.browser.click("#redo")
         self.browser.wait("document.querySelectorAll('#edits li').length === 1")
-        self.type_line("alter 29 6 switches 2")
+        self.type_line("alter 28 6 switches 2")
         self.browser.drag(KEY, 110)
         self.balance(SAFE)
         self.browser.wait("document.querySelectorAll('#edits li').length === 3")

@@ -211,10 +211,15 @@ export const SETUP = "setup version 1 units 31 start 001000 stride 10000 printer
 /** A machine that notes what it is asked, and the turns that each message runs, with checkpoints as
     the program has them. A word is written every 20,000 turns, and no PC is 2. */
 export class NotingMachine {
-  /** Each edit that it takes is added to `taken`. */
-  constructor(taken = []) {
-    Object.assign(this, { sent: [], runs: [], at: 0, known: 0, stride: 10_000, events: 0, taken });
-    this.script = [];
+  constructor() {
+    Object.assign(this, { sent: [], runs: [], at: 0, known: 0, stride: 10_000 });
+    this.past = { script: [], events: 0 };
+    // the pasts before the edits that can be taken back
+    this.before = [];
+  }
+
+  get script() {
+    return this.past.script;
   }
 
   get lines() {
@@ -226,10 +231,18 @@ export class NotingMachine {
   async ask(lines) {
     this.sent.push(lines);
     this.runs.push(0);
-    const replies = lines.map(it => `${this.reply(it)}\n`);
-    const taken = lines.map((line, at) => ({ line, reply: replies[at] }));
-    this.taken.push(...taken.filter(it => isEdit(it.line) && !it.reply.startsWith("refused ")));
-    return replies;
+    return lines.map(it => {
+      const before = { ...this.past }, reply = this.reply(it);
+      if (it === "version 2") this.before = [];
+      else if (isEdit(it) && !reply.startsWith("refused ")) this.before.push(before);
+      return `${reply}\n`;
+    });
+  }
+
+  undo() {
+    if (!this.before.length) return "refused 17 NoSuchEdit";
+    this.past = this.before.pop();
+    return "ok";
   }
 
   reply(line) {
@@ -238,6 +251,7 @@ export class NotingMachine {
     if (word === "setup") return SETUP;
     if (word === "patches") return "patches 0";
     if (word === "events") return this.told();
+    if (word === "undo") return this.undo();
     if (["at", "alter", "drop"].includes(word)) return this.edit(line);
     if (Number(first) > 1_000_000_000) return "refused 7 TurnTooLarge";
     const end = Number(["first", "writes"].includes(word) ? second : first);
@@ -248,16 +262,16 @@ export class NotingMachine {
   /** Makes an edit of the script. An event that comes into another turn is the last of it. */
   edit(line) {
     const [word, ...rest] = line.split(" ");
-    const number = word === "at" ? ++this.events : Number(rest.shift());
+    const number = word === "at" ? this.past.events + 1 : Number(rest.shift());
     const [turn, ...text] = rest, event = { number, turn: Number(turn), text: text.join(" ") };
     const place = this.script.findIndex(it => it.number === number);
     if (word !== "at" && place < 0) return "refused 5 NoSuchEvent";
-    if (word === "alter" && this.script[place].turn === event.turn) this.script[place] = event;
-    else {
-      this.script = this.script.filter(it => it.number !== number);
-      if (word !== "drop") this.script.push(event);
-    }
-    this.script.sort((one, other) => one.turn - other.turn);
+    let script = this.script.filter(it => it.number !== number);
+    const stays = word === "alter" && this.script[place].turn === event.turn;
+    if (stays) script = this.script.with(place, event);
+    else if (word !== "drop") script.push(event);
+    script.sort((one, other) => one.turn - other.turn);
+    this.past = { script, events: Math.max(number, this.past.events) };
     return word === "at" ? `event ${number}` : "ok";
   }
 
@@ -286,7 +300,7 @@ export class NotingMachine {
 
 export class NotingRun extends Run {
   newMachine() {
-    return new NotingMachine(this.ledger.taken);
+    return new NotingMachine();
   }
 }
 
@@ -299,10 +313,19 @@ export async function test_an_edit_runs_nothing() {
   const edits = ["at 400000000 tick", "alter 1 999999990 tick", "drop 2"];
   for (const line of edits) await run.commit(line);
   const asked = () => run.machine.lines.filter(it => !PAST_LINES.includes(it));
-  equal(asked(), ["at 99999999 tick x", "at 5 tick", "regs 64", ...edits]);
-  // without the `drop` the machine begins anew
+  const all = ["at 99999999 tick x", "at 5 tick", "regs 64", ...edits];
+  equal(asked(), all);
   await run.undo();
-  equal(asked(), ["at 5 tick", ...edits.slice(0, 2)]);
+  equal([asked(), run.ledger.lines], [[...all, "undo"], ["at 5 tick", ...edits.slice(0, 2)]]);
+}
+
+/** What a session takes back, and makes again, isn't in the past twice. */
+export async function test_steps_in_a_session_are_taken_up() {
+  const run = new NotingRun({});
+  await run.load(["at 9 key 66", "at 5 tick", "undo", "undo", "undo", "at 7 tick"]);
+  equal([run.ledger.lines, (await run.askPast()).script.map(it => it.turn)], [["at 7 tick"], [7]]);
+  for (const [line, reply] of [["undo", "ok"], ["redo", "ok"]]) run.ledger.note(line, reply);
+  equal(run.ledger.lines, ["at 7 tick"]);
 }
 
 export async function test_a_long_question_is_asked_in_parts() {
