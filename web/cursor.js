@@ -324,8 +324,8 @@ export class CursorPanels {
     const { app } = this;
     /** @type {WatchedWord} */
     const drawn = { kind: "core", drive: 0, at: place };
-    const turn = () => app.watched.turn(drawn);
-    const watch = link(octal(place), "Draw this word on the timeline", turn);
+    const watch = link(octal(place), "Draw this word on the timeline",
+      () => app.watched.add(drawn));
     /** @param {{turn: number, writer: string}} it */
     const goTo = it => link(`${it.writer}, turn ${it.turn}`, "Go to the turn that wrote it",
       () => app.goTo(it.turn));

@@ -77,7 +77,7 @@ function bindEdits(app) {
   onClick("step-over", () => app.stepping.over());
   onClick("step-out", () => app.stepping.out());
   onClick("sit", () => app.console.sit());
-  onForm("watch-form", "watch", value => app.watched.turnNamed(value));
+  onForm("watch-form", "watch", value => app.watched.addNamed(value));
   onClick("undo", () => app.edits.undo());
   onClick("redo", () => app.edits.redo());
   bindUndoKeys();

@@ -158,7 +158,7 @@ export class TurnPanel {
     }
     const place = coreWord(at & ~1), { titleOf } = app.watched;
     const name = link(titleOf.call(app.watched, `core ${address}`),
-      "Draw this word on the timeline", () => app.watched.turn(place));
+      "Draw this word on the timeline", () => app.watched.add(place));
     return [what, name, this.why(place, before, word)];
   }
 

@@ -63,32 +63,46 @@ export class Watched {
   /** Watches what has these names.
       @param {{words?: string[], registers?: string[]}} kept */
   take({ words, registers }) {
-    if (words) this.words = words.flatMap(it => wordNamed(it) ?? []);
-    if (registers) this.registers = registers.filter(isRegister);
-    this.show();
-    this.look();
-    this.app.pictures.draw();
-    this.app.view.timeline.draw();
+    this.watch({ words: words?.flatMap(it => wordNamed(it) ?? []),
+      registers: registers?.filter(isRegister) });
   }
 
-  /** Draws a word, or no longer if it is drawn already.
+  /** Draws a word; one that is drawn already stays.
       @param {WatchedWord} word */
-  turn(word) {
-    const others = this.words.filter(it => nameOfWord(it) !== nameOfWord(word));
-    this.words = others.length < this.words.length ? others : [...this.words, word];
+  add(word) {
+    const name = nameOfWord(word);
+    if (this.words.some(it => nameOfWord(it) === name)) this.isListed(this.titleOf(name));
+    else this.watch({ words: [...this.words, word] });
+  }
+
+  /** Watches a register; one that is watched already stays.
+      @param {string} name */
+  addRegister(name) {
+    if (this.registers.includes(name)) this.isListed(name);
+    else this.watch({ registers: [...this.registers, name] });
+  }
+
+  /** @param {string} title */
+  isListed(title) {
+    this.app.say(`${title} is in the watch list already.`);
+  }
+
+  /** Watches these, and of what isn't given what was watched.
+      @param {{words?: WatchedWord[], registers?: string[]}} watched */
+  watch({ words = this.words, registers = this.registers }) {
+    this.words = words;
+    this.registers = registers;
     this.show();
     this.look();
     this.app.pictures.draw();
     this.app.view.timeline.draw();
   }
 
-  /** Watches a register, or no longer.
+  /** Watches what has a name no longer.
       @param {string} name */
-  turnRegister(name) {
-    const others = this.registers.filter(it => it !== name);
-    this.registers = others.length < this.registers.length ? others : [...others, name];
-    this.show();
-    this.look();
+  drop(name) {
+    this.watch({ words: this.words.filter(it => nameOfWord(it) !== name),
+      registers: this.registers.filter(it => it !== name) });
   }
 
   /** What a word is called, and its name.
@@ -110,13 +124,14 @@ export class Watched {
   /** The list, with the values that are known. */
   showList() {
     const { olds, values, app } = this;
-    /** @param {string} name @param {string} what @param {() => void} onclick */
-    const row = (name, what, onclick) => [this.titleOf(name), values.get(name) ?? "..",
-      olds.get(name) ?? "", make("button", { type: "button", class: "link", title: what, onclick,
-        "aria-label": `${what}: ${this.titleOf(name)}` }, "\u2715")];
+    /** @param {string} name @param {string} what */
+    const row = (name, what) => [this.titleOf(name), values.get(name) ?? "..",
+      olds.get(name) ?? "", make("button", { type: "button", class: "link", title: what,
+        onclick: () => this.drop(name), "aria-label": `${what}: ${this.titleOf(name)}` },
+      "\u2715")];
     const rows = [
-      ...this.words.map(it => row(nameOfWord(it), "Draw no longer", () => this.turn(it))),
-      ...this.registers.map(it => row(it, "Watch no longer", () => this.turnRegister(it)))];
+      ...this.words.map(it => row(nameOfWord(it), "Draw no longer")),
+      ...this.registers.map(it => row(it, "Watch no longer"))];
     const heads = ["", "value", olds.size ? app.pasts.inWords() : "", ""];
     element("words").replaceChildren(...rows.length ? [table("Watch list", heads, rows)] : []);
   }
@@ -171,15 +186,15 @@ export class Watched {
 
   /** Watches a register by its name, or draws a word, if the machine has it.
       @param {string} name */
-  turnNamed(name) {
+  addNamed(name) {
     const { app } = this;
-    if (isRegister(name)) return this.turnRegister(name);
+    if (isRegister(name)) return this.addRegister(name);
     return app.attempt(async () => {
       const word = wordNamed(name);
       const why = word ? await whyNoWord(app.session.run, word)
         : "a word is named as 2000, core 2000, disk 0 or disk 1 0 are, in octal";
       if (why) app.say(`${name} can't be drawn: ${why}.`);
-      else if (word) this.turn(word);
+      else if (word) this.add(word);
     });
   }
 }

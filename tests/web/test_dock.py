@@ -348,6 +348,16 @@ class Watching(OpenCase):
             self.assertEqual([it[1:] for it in self.rows()], [list(it) for it in both], turn)
         self.assertIn("before your edits", self.browser.text("#words thead"))
 
+    def test_what_is_listed_stays_if_it_is_named_again(self) -> None:
+        for name, title in (("R4", "R4"), ("40000", "(core 040000)"), ("core 40000", "")):
+            self.watch(name)
+            listed = self.rows()
+            self.watch(name)
+            said = self.wait_text("#reply", " is in the watch list already")
+            self.assertIn(title, said)
+            self.assertEqual(self.rows(), listed)
+        self.browser.click("#words tr:last-child button")
+
     def test_a_register_is_watched_no_longer(self) -> None:
         self.watch("R5")
         self.assertIn("R5", [it[0] for it in self.rows()])
