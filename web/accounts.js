@@ -3,6 +3,7 @@
 
 import { MOST_STEPS, MadeOf, nameOfMade } from "./made.js";
 import { link, make } from "./page.js";
+import { questionOf } from "./picture.js";
 
 // So many levels are drawn further to the right; and so many times more steps are followed.
 const [DEEPEST, INDENT, MORE] = [8, 12, 4];
@@ -40,6 +41,14 @@ export class MadeQuestion {
     return this.old?.run ?? this.app.session.run;
   }
 
+  /** The line that asks what it is before a turn.
+      @param {number} turn */
+  line(turn) {
+    const { thing, app: { session: { end } } } = this;
+    if (thing.kind === "byte") return `text ${end}`;
+    return thing.kind === "register" ? `regs ${turn}` : questionOf(this.run.past, thing, turn);
+  }
+
   /** The same question about another past. */
   anew() {
     return new MadeQuestion(this.app, this.thing, null, this.most);
@@ -57,7 +66,7 @@ export class MadeQuestion {
     const { panels, session: { contents, end } } = this.app, { thing, old, run } = this;
     this.found ??= new MadeOf({ thing, turn, end, past: old?.past ?? run.past,
       options: contents.arguments,
-      instructionsOf: (it, trail) => panels.pastInstructions(it, trail) });
+      turnsInWords: (it, turns) => panels.turnsInWords(it, turns) });
     const made = await this.found.answer(ask, this.most);
     return { turn: made.turn, inside: this.inside(made), path: pathOf(made) };
   }

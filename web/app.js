@@ -11,9 +11,12 @@ import { Edits } from "./edits.js";
 import { EventList } from "./events.js";
 import { Examples } from "./examples.js";
 import { Finder } from "./find.js";
+import { Follow } from "./follow.js";
 import { FrontPanel } from "./front-panel.js";
 import { Inspect } from "./inspect.js";
 import { Linking } from "./linking.js";
+import { Lost } from "./lost.js";
+import { MattersPanel } from "./matters.js";
 import { Notes } from "./notes.js";
 import { Opening } from "./opening.js";
 import { NamedPasts } from "./pasts.js";
@@ -72,18 +75,26 @@ export class App {
     this.play = new Play(this);
     this.inspect = new Inspect(this);
     this.reasons = new Reasons(this);
+    this.follow = new Follow(this);
+    this.lost = new Lost(this);
+    this.matters = new MattersPanel(this);
     this.chosenByte = new ChosenByte(this);
     this.calls = new Calls(this);
     this.front = new FrontPanel(this);
     this.examples = new Examples(this);
     this.drives = new Drives(this);
     this.linking = new Linking(this);
-    /** @type {Part[]} in the order in which they are told: what is asked first is shown first */
-    this.parts = [
+    this.parts = this.inOrder();
+  }
+
+  /** The parts in the order in which they are told: what is asked first is shown first.
+      @returns {Part[]} */
+  inOrder() {
+    return [
       this.view, this.story, this.watched, this.edits, this.events, this.sweep, this.console,
       this.pictures, this.text, this.chosenByte, this.panels, this.turn, this.inspect,
-      this.reasons, this.calls, this.notes, this.pasts, this.linking, this.front,
-      this.drives, this.play,
+      this.reasons, this.follow, this.matters, this.lost, this.calls, this.notes, this.pasts,
+      this.linking, this.front, this.drives, this.play,
     ];
   }
 

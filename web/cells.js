@@ -75,6 +75,10 @@ export const coreWord = at => ({ kind: "core", drive: 0, at });
 export const wordOf = cell =>
   isOfDrive(cell) ? { kind: "disk", ...wordOfDrive(cell) } : coreWord(cell & ~1);
 
+/** The first cell of a word.
+    @param {import("./names.js").WatchedWord} word */
+export const cellOf = ({ kind, drive, at }) => kind === "core" ? at : driveCell(drive, at);
+
 /** @param {number} cell */
 export const isCore = cell => cell < IO_PAGE;
 /** @param {number} cell */

@@ -249,6 +249,15 @@ export class CursorPanels {
     });
   }
 
+  /** What turns did, each in one line, such as `kernel 001040 ADD #7,@#2000`.
+      @param {Ask} ask @param {number[]} turns */
+  async turnsInWords(ask, turns) {
+    const replies = await ask(turns.map(it => `trail ${it + 1} 1`));
+    const found = await this.pastInstructions(ask, replies.flatMap(turnsOf));
+    return found.map(({ mode, pc, symbol, text }) =>
+      `${mode} ${octal(pc)}${symbol ? ` (${symbol})` : ""} ${text.trim()}`);
+  }
+
   /** @param {Ask} ask @param {TheMachine} machine @returns {Promise<Instruction[]>} */
   async nextInstructions(ask, machine) {
     const { registers: { mode, pc } } = machine;

@@ -97,6 +97,7 @@ export class Edits {
   /** Puts an event's edit into the field.
       @param {ScriptEvent} event */
   openEvent(event) {
+    field("follow-event").value = String(event.number);
     this.writeLine(`alter ${event.number} `, String(event.turn), ` ${event.text}`);
   }
 

@@ -5,7 +5,8 @@ import { Brush, CHARACTER } from "./brush.js";
 import { SWEEP_COLOURS, letterOf } from "./sweep.js";
 import { Traces } from "./traces.js";
 
-const HEIGHTS = { axis: 24, events: 62, counter: 54, row: 30, rows: 42, steps: 40, sweep: 24 };
+const HEIGHTS = { axis: 24, events: 62, counter: 54, row: 30, rows: 42, steps: 40, sweep: 24,
+  matters: 54 };
 
 /**
  * A lane: of a PC with its mode, of a word with what that is called, or an empty text.
@@ -21,10 +22,11 @@ const HEIGHTS = { axis: 24, events: 62, counter: 54, row: 30, rows: 42, steps: 4
  * @typedef {{view: View, lanes: Lane[], height: number, width: number,
  *   picture: Picture | null, ghost: Picture | null, symbols: Partial<Symbols>,
  *   events: {turn: number}[], part: Part | null, same: number | null, sweep: SweepRuns | null,
- *   target?: Target | null, tick?: number | null}} Drawing
+ *   matters?: Nearest[] | null, target?: Target | null, tick?: number | null}} Drawing
  * @typedef {import("./picture.js").Picture} Picture
  * @typedef {import("./session.js").Symbols} Symbols
  * @typedef {{turn: number, isExact: boolean}} Part where the old past and the new one part
+ * @typedef {{event: {turn: number}, turn: number}} Nearest an event, and where a move puts it
  * @typedef {{runs: import("./sweep.js").Stretch[], isWhole: boolean}} SweepRuns
  * @typedef {{from: number, to: number}} Target
  */
@@ -71,12 +73,13 @@ export function ticksOf(view, most) {
 /**
  * The lanes of a picture, from the top down, with their heights.
  * @param {{name: string, label?: string}[]} words those that are drawn, and what they are called
+ * @param {("sweep" | "matters")[]} tried the lanes of what was tried
  */
-export function lanesOf(words, hasSweep = false) {
+export function lanesOf(words, tried = []) {
   /** @type {Omit<Lane, "top" | "height">[]} */
   const named = [
     { name: "turn", kind: "axis" }, { name: "events", kind: "events" },
-    ...(hasSweep ? [{ name: "sweep", kind: /** @type {const} */ ("sweep") }] : []),
+    ...tried.map(kind => ({ name: kind, kind })),
     { name: "kernel PC", kind: "counter", mode: "kernel" },
     { name: "user PC", kind: "counter", mode: "user" },
     { name: "disk", kind: "row" }, { name: "interrupts", kind: "rows" },
@@ -144,6 +147,7 @@ class Frame {
   drawLane(lane) {
     if (lane.kind === "axis") this.drawAxis(lane);
     else if (lane.kind === "events") this.drawStems(lane);
+    else if (lane.kind === "matters") this.drawNearest(lane);
     else if (lane.kind !== "sweep") this.traces.draw(lane);
   }
 
@@ -208,6 +212,20 @@ class Frame {
     const wide = pen.measureText(said).width + 8;
     const left = x + wide < view.left + view.width ? x + 4 : x - wide;
     brush.text(left, lane.top + lane.height - 3, said, "accent");
+  }
+
+  /** How near moves change the answer: a line from each event to where such a move puts it.
+      @param {Lane} lane */
+  drawNearest(lane) {
+    const { brush } = this, { pen, view } = brush;
+    pen.fillStyle = brush.colourOf("bad");
+    brush.clipped(lane, () => {
+      for (const { event, turn } of this.drawing.matters ?? []) {
+        const [x, end] = [event.turn, turn].map(it => view.x(it)).sort((a, b) => a - b);
+        pen.fillRect(x, lane.top + 13, Math.max(1, end - x), 2);
+        pen.fillRect(view.x(turn) - 1, lane.top + 4, 2, lane.height - 8);
+      }
+    });
   }
 
   /** Turns with equal outcomes, with a letter each. What wasn't tried yet has no colour.

@@ -4,7 +4,7 @@
 
 import { Account } from "./account.js";
 import {
-  ALL_CODES, REGISTER_NAMES, REST, TPB, driveCell, nameOfCell, registerCells, wordCells,
+  ALL_CODES, REGISTER_NAMES, REST, TPB, cellOf, nameOfCell, registerCells, wordCells,
 } from "./cells.js";
 import { Facts } from "./facts.js";
 import { FindError } from "./find.js";
@@ -12,7 +12,7 @@ import { nameOfWord } from "./names.js";
 import { OriginSteps } from "./origin-steps.js";
 import { Kind, Origins, eventsOfGraph, eventsWithData, isWhole, isWrite } from "./origins.js";
 import { pointerOf } from "./operands.js";
-import { bytesOf, counted, octal, turnOf, turnsOf, wordsOf } from "./replies.js";
+import { bytesOf, counted, octal, turnOf, wordsOf } from "./replies.js";
 import { NotFollowed } from "./space.js";
 
 const MOST_ENDS = 6;
@@ -53,10 +53,6 @@ export function nameOfMade(thing) {
   return thing.kind === "register" ? thing.name : nameOfWord(thing);
 }
 
-/** The first cell of a word.
-    @param {Word} word */
-const cellOfWord = ({ kind, drive, at }) => kind === "core" ? at : driveCell(drive, at);
-
 /** A byte as a character in quotes, or in octal.
     @param {number} byte */
 const inQuotes = byte => byte >= 0o40 && byte < 0o177 ? `'${String.fromCharCode(byte)}'`
@@ -79,17 +75,16 @@ export class MadeOf {
   /**
    * `turn` is the one before which it is asked, `end` the last turn up to which bytes are.
    * @param {{thing: MadeThing, turn: number, end: number, past: import("./past.js").Past,
-   *   options: string[], instructionsOf: InstructionsOf}} about
-   * @typedef {(ask: import("./cursor.js").Ask, trail: ReturnType<typeof turnsOf>) =>
-   *   Promise<{mode: string, pc: number, symbol: string, text: string}[]>} InstructionsOf
+   *   options: string[], turnsInWords: TurnsInWords}} about
+   * @typedef {(ask: import("./cursor.js").Ask, turns: number[]) => Promise<string[]>} TurnsInWords
    */
-  constructor({ thing, turn, end, past, options, instructionsOf }) {
+  constructor({ thing, turn, end, past, options, turnsInWords }) {
     this.thing = thing;
     this.turn = turn;
     this.end = end;
     this.past = past;
     this.options = options;
-    this.instructionsOf = instructionsOf;
+    this.turnsInWords = turnsInWords;
     /** @type {Origins | null} what was found so far, for when more steps are followed */
     this.origins = null;
   }
@@ -136,7 +131,7 @@ export class MadeOf {
 
   /** @param {Facts} facts @param {Word} word */
   async beginWord(facts, word) {
-    const { turn, past } = this, cell = cellOfWord(word);
+    const { turn, past } = this, cell = cellOf(word);
     if (word.drive && past.version === 1) {
       throw new FindError(`${nameOfWord(word)}: there is one drive`);
     }
@@ -178,14 +173,6 @@ export class MadeOf {
     };
   }
 
-  /** @param {import("./cursor.js").Ask} ask @param {number[]} turns */
-  async turnsInWords(ask, turns) {
-    const replies = await ask(turns.map(it => `trail ${it + 1} 1`));
-    const found = await this.instructionsOf(ask, replies.flatMap(turnsOf));
-    return found.map(({ mode, pc, symbol, text }) =>
-      `${mode} ${octal(pc)}${symbol ? ` (${symbol})` : ""} ${text.trim()}`);
-  }
-
   /** What a value is made of in all, as far as it was followed.
       @param {Account} account @param {number} turn */
   ends(account, turn) {
@@ -206,7 +193,7 @@ export class MadeOf {
   /** The changes of a word of a drive that left nothing in it, in words.
       @param {Account} account @param {Word} word @returns {Promise<string[]>} */
   async changes({ facts, steps }, word) {
-    const found = await facts.changes(word, this.turn, COUNTED_CHANGES), cell = cellOfWord(word);
+    const found = await facts.changes(word, this.turn, COUNTED_CHANGES), cell = cellOf(word);
     const made = steps.ordered.filter(it => it.kind === Kind.MOVED && it.at === cell);
     const gone = found.filter(turn => !made.some(it => it.turn === turn));
     if (found.length === COUNTED_CHANGES || !gone.length) return [];

@@ -1,6 +1,6 @@
 // Where the data of a turn goes: the operands of instructions, pushes and pops, in the order of
 // docs/MACHINE.md, Operands, and what each write is made of. The rules are those of
-// src/nezdrab/analysis/operands.py, without what addresses are made of.
+// src/nezdrab/analysis/operands.py.
 
 import {
   ALL_CODES, IO_PAGE, KEPT_ON_THE_BUS, KSP, MASK, OF_THE_DISK, OUTPUTS, POINT, PS, REST, USP,
@@ -20,10 +20,11 @@ export const STACK_LIMIT = 0o340;
  */
 
 /**
- * A cell gets a value, made of these cells. The moves of one instant are made at once, of what was
- * before them. An operand is in a register, or at a virtual address. Values are the cells of the
- * low and of the high byte.
- * @typedef {{cell: number, values: number[], how: How, instant: number}} Move
+ * A cell gets a value: made of these cells, and at an address made of those. The moves of one
+ * instant are made at once, of what was before them. An operand is in a register, or at a virtual
+ * address. Values are the cells of the low and of the high byte.
+ * @typedef {{cell: number, values: number[], addresses: number[], how: How,
+ *   instant: number}} Move
  * @typedef {{register: number | null, address: number}} Operand
  * @typedef {[number[], number[]]} Values
  * @typedef {import("./facts.js").Transfer} Transfer
@@ -81,6 +82,8 @@ export class Operands {
     /** The registers to which a value was written, as bits. */
     this.unknown = 0;
     this.turn = 0;
+    /** @type {number[]} the cells that the addresses of the operands found so far are made of */
+    this.addresses = [];
     /** @type {Move[]} */
     this.moves = [];
   }
@@ -94,6 +97,7 @@ export class Operands {
     this.mode = before.ps >> 14;
     this.previous = before.ps >> 12 & 3;
     this.moves = [];
+    this.addresses = [];
     this.turn = act.turn;
     this.instant = 0;
     this.unknown = 0;
@@ -102,8 +106,19 @@ export class Operands {
   // Moves
 
   /** @param {number} cell @param {number[]} values @param {How} how */
-  move(cell, values, how = "value") {
-    this.moves.push({ cell, values, how, instant: this.instant });
+  move(cell, values, how = "value", addresses = how === "step" ? [] : this.addresses) {
+    this.moves.push({ cell, values, addresses, how, instant: this.instant });
+  }
+
+  /** What comes now is at no address that was found so far. */
+  forgetAddresses() {
+    this.addresses = [];
+  }
+
+  /** What an address in this register is made of.
+      @param {number} register */
+  cellsOf(register) {
+    return register === PC ? [] : registerCells(this.number(register));
   }
 
   /** @param {number} register */
@@ -173,16 +188,22 @@ export class Operands {
     if (!way) return { register: spec, address: 0 };
     if (way.shrinks) this.shrink(way.register, way.shrinks);
     let index = 0;
+    const cells = this.cellsOf(way.register);
     if (way.hasIndex) {
       const place = await this.reach(this.mode, this.pc);
       this.pc = this.pc + 2 & MASK;
       index = await this.space.word(place);
+      cells.push(...wordCells(place));
     }
-    const address = this.value(way.register) + index & MASK;
+    let address = this.value(way.register) + index & MASK;
     if (way.grows) this.step(way.register, way.grows);
-    if (!way.isDeferred) return { register: null, address };
-    const place = await this.reach(this.mode, address);
-    return { register: null, address: await this.space.word(place) };
+    if (way.isDeferred) {
+      const place = await this.reach(this.mode, address);
+      address = await this.space.word(place);
+      cells.push(...wordCells(place));
+    }
+    this.addresses = [...this.addresses, ...cells];
+    return { register: null, address };
   }
 
   /** The cells of the low and of the high byte.
@@ -253,17 +274,21 @@ export class Operands {
   /** Pushes a word. If it is from before the push, it isn't made of the pointer that has shrunk.
       @param {Values} values @param {number} mode @param {How} how */
   async push(values, mode, how = "copy", isFromBefore = false) {
-    const number = pointerOf(mode);
+    const number = pointerOf(mode), { addresses } = this;
     this.shrinkNumber(number, 2);
     const place = await this.reach(mode, this.registers[number], false, true);
     if (!isFromBefore) this.instant += 1;
-    return this.store(place, false, values, how);
+    this.addresses = [...registerCells(number), ...addresses];
+    const storesCodes = await this.store(place, false, values, how);
+    this.addresses = addresses;
+    return storesCodes;
   }
 
   /** The cells of the popped word. */
   async pop() {
     const number = pointerOf(this.mode), address = this.registers[number];
     this.stepNumber(number, 2);
+    this.addresses = registerCells(number);
     return this.cellsAt(await this.reach(this.mode, address), false);
   }
 }

@@ -42,6 +42,8 @@ export class Path {
     this.timeline = timeline;
     /** @type {PathStep[]} */
     this.steps = [];
+    /** @type {object | null} the part of the page whose path it is */
+    this.owner = null;
     this.drawing = /** @type {SVGElement} */ (timeline.element.querySelector(".path"));
   }
 
@@ -52,8 +54,11 @@ export class Path {
     return made;
   }
 
-  /** @param {PathStep[]} steps */
-  show(steps) {
+  /** Draws steps in the place of those before. A part of the page takes away none but its own.
+      @param {PathStep[]} steps @param {object} owner */
+  show(steps, owner) {
+    if (!steps.length && owner !== this.owner) return;
+    this.owner = owner;
     this.steps = steps;
     this.draw();
   }

@@ -41,6 +41,13 @@ export function turnsAsked(line) {
   return end < begin ? [0, 0] : [begin ?? 0, end ?? begin ?? 0];
 }
 
+/** Whether a line is a question that names its turn, or its turns.
+    @param {string} line */
+export function isQuestionOfTurn(line) {
+  const word = wordOfLine(line);
+  return word !== "fades" && (OF_A_TURN.has(word) || OF_TURNS.has(word));
+}
+
 /** A question like this one about early turns. It is refused if this one is, whatever its turn.
     @param {string} line */
 export function earlyQuestion(line) {

@@ -30,6 +30,8 @@ export class Reasons {
       this.askNamed(field("why-word").value.trim());
     });
     element("why-none").addEventListener("click", () => this.forget());
+    element("why-matters").addEventListener("click", () =>
+      this.question && app.matters.ask(this.question.line(this.turn)));
   }
 
   /** @param {string} name */
@@ -79,10 +81,10 @@ export class Reasons {
     this.app.token("why");
     this.question = null;
     this.shown = undefined;
-    this.app.view.path.show([]);
+    this.app.view.path.show([], this);
     element("reasons").replaceChildren();
     element("why-turn").textContent = "";
-    element("why-none").hidden = true;
+    element("why-none").hidden = element("why-matters").hidden = true;
   }
 
   /** The past has changed: what is shown is asked again, before the same turn. The old past has
@@ -112,8 +114,9 @@ export class Reasons {
     this.turn = answer.turn;
     this.shown = { ...stateOf(run, answer.turn), more: old ? `, ${app.pasts.inWords()}` : "" };
     element("reasons").replaceChildren(...answer.inside);
-    app.view.path.show(answer.path);
+    app.view.path.show(answer.path, this);
     element("why-none").hidden = false;
+    element("why-matters").hidden = old !== null;
     this.mark(run);
   }
 

@@ -35,6 +35,11 @@ export const octal = (word, digits = 6) => word.toString(8).padStart(digits, "0"
     @param {number} count @param {string} noun */
 export const counted = (count, noun) => `${count} ${noun}${count === 1 ? "" : "s"}`;
 
+/** How many of a total, with the verb: `3 of 5 keys are`, `0 of 1 key is`.
+    @param {number} count @param {number} total @param {string} noun */
+export const someAre = (count, total, noun) =>
+  `${count} of ${counted(total, noun)} ${total === 1 ? "is" : "are"}`;
+
 const REFUSALS = new Map([
   [1, "the memory that this needs was refused"], [2, "the address isn't in core"],
   [3, "the address is odd"], [4, "the number is past the end of a drive"],

@@ -32,6 +32,8 @@ export class Scene {
     this.gone = [];
     /** @type {SweepRuns | null} */
     this.sweep = null;
+    /** @type {import("./lanes.js").Nearest[] | null} the nearest moves that change an answer */
+    this.matters = null;
     /** The number of the event that is to be moved, or 0. */
     this.wanted = 0;
     /** @type {Target | null} where that event is to be dropped */
@@ -48,6 +50,13 @@ export class Scene {
     this.past = past;
     this.oldPast = oldPast;
     this.gone = differenceOf(oldPast.script, past.script).gone;
+  }
+
+  /** The lanes of what was tried.
+      @returns {("sweep" | "matters")[]} */
+  get tried() {
+    return [...this.sweep ? [/** @type {const} */ ("sweep")] : [],
+      ...this.matters ? [/** @type {const} */ ("matters")] : []];
   }
 
   /** @param {ScriptEvent[]} script */

@@ -9,6 +9,8 @@ const LANES = {
   turn: "the steps of the machine, counted from power-up",
   events: "keys, ticks and what else came from outside, each in its turn: drag one to another turn",
   sweep: "what came of the event in each turn that was tried: equal letters, equal outcomes",
+  matters: "how near each event is to changing the answer that was asked about: where the nearest "
+    + "move puts it, or \u00d7 where it is without it",
   "kernel PC": "where the program runs in kernel mode, higher for a higher address",
   "user PC": "where the program runs in user mode, higher for a higher address",
   disk: "what the disk does, from the turn that begins it to the one that ends it",

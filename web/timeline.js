@@ -175,13 +175,13 @@ export class Timeline extends Scene {
   }
 
   drawNow() {
-    const { lanes, height } = lanesOf(this.words, this.sweep !== null);
+    const { lanes, height } = lanesOf(this.words, this.tried);
     this.lanes = lanes;
-    const { view, width, picture, ghost, symbols, part, same, sweep } = this;
+    const { view, width, picture, ghost, symbols, part, same, sweep, matters } = this;
     const events = this.eventsInSight(this.past.script), target = this.targetOfTaken();
     const tick = this.target?.tick ?? null;
     this.drawing.draw({ view, lanes, height, width, picture, ghost, symbols, events, part, same,
-      sweep, target, tick });
+      sweep, matters, target, tick });
     this.cursorLine.style.height = `${height}px`;
     this.marks.show(events);
     this.placeCursor();

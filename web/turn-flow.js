@@ -19,10 +19,11 @@ const TRAPPING_WORDS = new Map([[0o3, 0o14], [0o4, 0o20]]);
 const [MUL, ASH, EXCLUSIVE_OR, SUBTRACT_AND_BRANCH] = [0, 2, 4, 7];
 
 /**
- * What a turn moves, after the transfer that ended in its beginning. `place` is that of the
- * instruction, if it ran one.
- * @typedef {{turn: number, mode: number, transfer: Transfer | null, moves: Move[],
- *   place: number | null}} Flow
+ * What a turn moves, after the transfer that ended in its beginning. `place` and `word` are those
+ * of the instruction, if it ran one; `vector` is that of its trap or interrupt, or null.
+ * @typedef {{turn: number, act: Act, mode: number, transfer: Transfer | null, moves: Move[],
+ *   place: number | null, word: number, vector: number | null}} Flow
+ * @typedef {import("./facts.js").Act} Act
  * @typedef {import("./made-of.js").Row} Row
  * @typedef {import("./operands.js").Move} Move
  * @typedef {import("./operands.js").Operand} Operand
@@ -40,13 +41,25 @@ export class Flows extends Operands {
     super(facts);
     /** @type {number | null} the place of the instruction */
     this.place = null;
+    this.word = 0;
+    /** @type {number | null} the vector of the sequence that the turn had */
+    this.taken = null;
   }
 
   /** The flows of the turns from `first` to the one before `end`, at most 64. One that isn't
       followed is an error.
-      @param {number} first @param {number} end @returns {Promise<Flow[]>} */
+      @param {number} first @param {number} end */
   async of(first, end) {
-    const { seen, ended } = await this.facts.seen(first, end), found = [];
+    /** @type {Flow[]} */
+    const found = [];
+    await this.walk(first, end, it => found.push(it));
+    return found;
+  }
+
+  /** Takes the same flows one after the other, up to one that isn't followed.
+      @param {number} first @param {number} end @param {(flow: Flow) => unknown} take */
+  async walk(first, end, take) {
+    const { seen, ended } = await this.facts.seen(first, end);
     const moving = await this.facts.moving(ended);
     this.ends = new Set(ended.map(it => it.turn));
     const transfers = new Map(moving.map(it => [it.turn, it]));
@@ -54,9 +67,8 @@ export class Flows extends Operands {
     for (const it of seen) {
       const transfer = transfers.get(it.act.turn) ?? null;
       this.space.begin(it.act.turn, transfer);
-      found.push(await this.flow(it, transfer));
+      await take(await this.flow(it, transfer));
     }
-    return found;
   }
 
   /** @param {import("./facts.js").Seen} seen @param {Transfer | null} transfer
@@ -64,14 +76,16 @@ export class Flows extends Operands {
   async flow(seen, transfer) {
     const { act } = seen;
     this.beginTurn(seen);
-    this.place = null;
+    this.place = this.taken = null;
+    this.word = 0;
     const { mode } = this;
     if (act.act === "instr") await this.orNotFollowed(this.instruction());
     else if (act.act !== "idle") {
       await this.orNotFollowed(this.sequence(act.vector ?? VECTORS[act.act]));
     }
     this.check();
-    return { turn: act.turn, mode, transfer, moves: this.moves, place: this.place };
+    const { moves, place, word, taken: vector } = this;
+    return { turn: act.turn, act, mode, transfer, moves, place, word, vector };
   }
 
   /** A sequence that is cut short isn't explained.
@@ -98,13 +112,14 @@ export class Flows extends Operands {
   async instruction() {
     try {
       this.place = await this.reach(this.mode, this.pc);
-      const word = await this.space.word(this.place);
+      const word = this.word = await this.space.word(this.place);
       this.pc = this.pc + 2 & MASK;
       if (this.vector === RESERVED) throw new CutShort();
       await this.carryOut(word);
     } catch (error) {
       if (!(error instanceof CutShort)) throw error;
       const { vector } = this;
+      this.taken = vector;
       this.vector = null;
       if (error instanceof BelowTheLimit) await this.red();
       else if (vector !== null) await this.sequence(vector);
@@ -116,7 +131,9 @@ export class Flows extends Operands {
 
   /** @param {number} vector */
   async sequence(vector) {
+    this.taken = vector;
     this.vector = null;
+    this.forgetAddresses();
     const first = await this.vectorWord(vector);
     const place = first === null ? null : await this.vectorWord(vector + 2);
     if (place === null) {
@@ -186,6 +203,7 @@ export class Flows extends Operands {
   /** The red sequence, also one that can't go on. */
   async red() {
     this.instant += 1;
+    this.forgetAddresses();
     this.registers = [...this.registers.slice(0, KSP), ...this.after.words.slice(KSP)];
     for (const cell of registerCells(KSP)) this.move(cell, []);
     if (await this.vectorWord(BOTTOM) === null) return;
@@ -257,7 +275,8 @@ export class Flows extends Operands {
   /** @param {Row} row @param {number[][]} inputs */
   codes(row, inputs) {
     for (const [at, part] of row.codes.entries()) {
-      if (part !== KEPT) this.move(ALL_CODES[at], madeOf(part, inputs), "code");
+      const addresses = part ? this.addresses : [];
+      if (part !== KEPT) this.move(ALL_CODES[at], madeOf(part, inputs), "code", addresses);
     }
   }
 
@@ -311,6 +330,7 @@ export class Flows extends Operands {
   async findJump(destination) {
     if (destination < 8) throw new CutShort();
     await this.find(destination, false);
+    this.forgetAddresses();
   }
 
   /** @param {number} register @param {number} destination */

@@ -85,6 +85,7 @@ export class PageView {
     this.minimap.draw();
     this.path.draw();
     this.app.notes.draw();
+    this.app.matters.draw();
     this.app.tasks.add(-1);
   }
 

@@ -31,7 +31,12 @@ class Explored:
         for name, mode in SYMBOLS.items():
             path = session.parent / name
             if path.is_file():
-                self.explorer.symbols.take(symbol_file(path.read_text()).symbols, [mode])
+                self.name(path, mode=mode)
+
+    def name(self, *paths: Path, mode: Mode = Mode.KERNEL) -> None:
+        """Takes the symbols of a mode from files."""
+        for path in paths:
+            self.explorer.symbols.add(symbol_file(path.read_text()).symbols, [mode])
 
     def lines(self, line: str) -> list[str]:
         """What a line of explore shows."""
