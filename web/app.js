@@ -15,6 +15,7 @@ import { Follow } from "./follow.js";
 import { FrontPanel } from "./front-panel.js";
 import { Inspect } from "./inspect.js";
 import { Linking } from "./linking.js";
+import { Listings } from "./listings.js";
 import { Lost } from "./lost.js";
 import { MattersPanel } from "./matters.js";
 import { Notes } from "./notes.js";
@@ -80,6 +81,7 @@ export class App {
     this.matters = new MattersPanel(this);
     this.chosenByte = new ChosenByte(this);
     this.calls = new Calls(this);
+    this.listings = new Listings(this);
     this.front = new FrontPanel(this);
     this.examples = new Examples(this);
     this.drives = new Drives(this);
@@ -93,8 +95,8 @@ export class App {
     return [
       this.view, this.story, this.watched, this.edits, this.events, this.sweep, this.console,
       this.pictures, this.text, this.chosenByte, this.panels, this.turn, this.inspect,
-      this.reasons, this.follow, this.matters, this.lost, this.calls, this.notes, this.pasts,
-      this.linking, this.front, this.drives, this.play,
+      this.reasons, this.follow, this.matters, this.lost, this.calls, this.listings, this.notes,
+      this.pasts, this.linking, this.front, this.drives, this.play,
     ];
   }
 

@@ -1,5 +1,5 @@
-// Made of src/nezdrab/analysis/made_of.py by tools/web --tables: change that file, and make this
-// one again.
+// Made of made_of.py and assembler.py in src/nezdrab/analysis by tools/web --tables: change these,
+// and make this one again.
 
 /**
  * What the results of an instruction are made of: `low` and `high` the bytes that it stores, and
@@ -74,3 +74,11 @@ const ROWS = [
     @param {number} word */
 export const rowOf = word =>
   ROWS.find(([first, last]) => word >> 6 >= first && word >> 6 <= last)?.[2] ?? null;
+
+/** The names of instructions, in the syntax of MACRO-11. */
+export const MNEMONICS = new Set((""
+  + "ADC ADCB ADD ASH ASHC ASL ASLB ASR ASRB BCC BCS BEQ BGE BGT BHI BHIS BIC BICB BIS BISB "
+  + "BIT BITB BLE BLO BLOS BLT BMI BNE BPL BPT BR BVC BVS CALL CCC CLC CLN CLR CLRB CLV CLZ "
+  + "CMP CMPB COM COMB DEC DECB DIV EMT HALT INC INCB IOT JMP JSR MARK MFPI MOV MOVB MTPI MUL "
+  + "NEG NEGB NOP RESET RETURN ROL ROLB ROR RORB RTI RTS RTT SBC SBCB SCC SEC SEN SEV SEZ SOB "
+  + "SUB SWAB SXT TRAP TST TSTB WAIT XOR").split(" "));

@@ -104,6 +104,10 @@ const IN_TABLE = new RegExp(String.raw`(?<!\S)(?<name>${NAME_OF_DEC}?)\s*(?<mark
   + String.raw`(?<register>%?)(?<![0-7])(?<value>[0-7]{6}|\*{6})\s?`
   + String.raw`(?<flags>R?( ?[GXLCW]{1,2})?)(\s+[0-9]{3})?(?=\s|$)`, "g");
 
+/** The address, the words and the source of a line of a listing; null of another line.
+    @param {string} line */
+export const columnsOf = line => groups(SOURCE, line);
+
 /** The labels that a line of source begins with.
     @param {string} source */
 function labelsOf(source) {
@@ -123,7 +127,7 @@ function ofColumns(line) {
   if (assigned && assigned.name !== ".") {
     return [symbol(assigned.name, parseInt(assigned.value, 8), true)];
   }
-  const found = groups(SOURCE, line);
+  const found = columnsOf(line);
   if (!found) return [];
   return labelsOf(found.source ?? "").map(it => symbol(it, parseInt(found.address, 8)));
 }

@@ -202,3 +202,56 @@ class OfTheForth(Asking):
             explored, f"45 46 near 3000: {asked} until 040503",
             events="45, 46", most="3000", until="040503", question=asked,
         )
+
+
+class TheListing(Asking):
+    def lines(self) -> list[str]:
+        """The lines with their counts, as `covered` has them."""
+        return list(
+            self.browser.value(
+                "[...document.querySelectorAll('#listing-found > div')].map(it =>"
+                " [it.firstChild.textContent.padStart(10), it.lastChild.textContent].join(': ')"
+                ".trimEnd())"
+            )
+        )
+
+    def current(self) -> str:
+        """The line of PC."""
+        self.wait_still()
+        return str(self.browser.value("document.querySelector('[aria-current]')?.textContent"))
+
+    def go(self, turn: int) -> None:
+        self.fill("#turn", str(turn))
+        self.browser.key("Enter")
+        self.wait_text("#listing-turn", f"before turn {turn}")
+
+    def test_lines_run_counts_and_the_line_of_pc(self) -> None:
+        path = LEDGER / "ledger.lst"
+        self.browser.click("#tab-machine")
+        panel = "document.querySelector('#listing-panel').hidden"
+        self.assertTrue(self.browser.value(panel))
+        self.give(path)
+        self.wait_still()
+        self.assertFalse(self.browser.value(panel))
+        self.go(127_161)
+        self.assertIn("001230", self.current())
+        explored = Explored(LEDGER / "ledger.session")
+        self.addCleanup(explored.close)
+        for mode in ("kernel", "user"):
+            self.choose("listing-mode", mode)
+            self.browser.click("#listing-form button")
+            told = explored.lines(f"covered {path} {mode} from 0 to 127160")
+            self.wait_text("#listing-said", told[-1])
+            self.wait_still()
+            self.assertEqual(self.lines(), [it.rstrip() for it in told[:-1]])
+        self.type_line("drop 1")
+        self.wait_text("#listing-said", "before the last edit")
+
+    def test_a_line_leads_to_its_next_run(self) -> None:
+        self.give(LEDGER / "ledger.lst")
+        self.go(126_900)
+        (found,) = [it for it in self.lines() if "001234  " in it]
+        at = self.lines().index(found) + 1
+        self.browser.click(f"#listing-found > div:nth-child({at}) .link")
+        self.browser.wait("document.querySelector('#turns').ariaValueNow === '127164'")
+        self.assertIn("001234", self.current())

@@ -1,11 +1,16 @@
 """What the results of instructions are made of, as the page's module. `tools/web --tables` makes
-web/made-of.js of this. The rows stand in src/nezdrab/analysis/made_of.py."""
+web/made-of.js of this. The rows stand in src/nezdrab/analysis/made_of.py, and the names of
+instructions in assembler.py."""
+import textwrap
+
+from nezdrab.analysis.assembler import INSTRUCTIONS, OPERATORS, OTHER_NAMES
 from nezdrab.analysis.made_of import EXTENDED, LETTERS, MOVED, XOR, MadeRow, Plan, plan_of
 
+WIDEST = 88
 OPERATIONS = 0o2000  # the numbers that the upper ten bits of a word can be
 MODULE = """\
-// Made of src/nezdrab/analysis/made_of.py by tools/web --tables: change that file, and make this
-// one again.
+// Made of made_of.py and assembler.py in src/nezdrab/analysis by tools/web --tables: change these,
+// and make this one again.
 
 /**
  * What the results of an instruction are made of: `low` and `high` the bytes that it stores, and
@@ -38,6 +43,10 @@ ROWS_OF_OPERANDS];
     @param {number} word */
 export const rowOf = word =>
   ROWS.find(([first, last]) => word >> 6 >= first && word >> 6 <= last)?.[2] ?? null;
+
+/** The names of instructions, in the syntax of MACRO-11. */
+export const MNEMONICS = new Set((""
+NAMES_OF_INSTRUCTIONS).split(" "));
 """
 
 
@@ -63,6 +72,12 @@ def ranges() -> list[tuple[int, int, Plan]]:
     return found
 
 
+def names_of_instructions() -> str:
+    """The names that the assembler takes, in lines of a page's module."""
+    names = " ".join(sorted({*INSTRUCTIONS, *OTHER_NAMES, *OPERATORS}))
+    return "\n".join(f'  + "{it} "' for it in textwrap.wrap(names, WIDEST))[:-2] + '"'
+
+
 def as_module() -> str:
     """The text of web/made-of.js."""
     rows = (
@@ -76,6 +91,7 @@ def as_module() -> str:
         "ROW_OF_XOR": call_of(XOR),
         "ROWS_OF_EXTENDED": "".join(extended),
         "ROWS_OF_OPERANDS": "".join(rows),
+        "NAMES_OF_INSTRUCTIONS": names_of_instructions(),
     }
     text = MODULE
     for name, held in parts.items():
