@@ -4,7 +4,7 @@
 import { sessionOfFiles, takeDrops } from "./files.js";
 import { kindOf, readFiles } from "./given.js";
 import { firstSession, forgetSession, keepSession, sumOfSession } from "./kept.js";
-import { packedExamples, packedSession } from "./packed.js";
+import { EXAMPLES, packedSession } from "./packed.js";
 import { element, field, make, part } from "./page.js";
 import { fragmentOf } from "./place.js";
 import { octal, visibleName } from "./replies.js";
@@ -53,12 +53,11 @@ export class Examples {
   /** @param {import("./app.js").App} app */
   constructor(app) {
     this.app = app;
-    this.all = packedExamples();
     this.menu = /** @type {HTMLDetailsElement} */ (element("examples-menu"));
-    element("example-list").append(...this.all.map(it => make("li", {}, make("button", {
+    element("example-list").append(...EXAMPLES.map(it => make("li", {}, make("button", {
       type: "button", class: "link", "data-example": it.key, onclick: () => this.open(it),
     }, it.title))));
-    this.menu.hidden = !this.all.length;
+    this.menu.hidden = !EXAMPLES.length;
     this.listenForDisks();
     this.menu.addEventListener("keydown", event => {
       if (event.key !== "Escape") return;
@@ -89,13 +88,13 @@ export class Examples {
   /** The example with this key, if the page has it.
       @param {string} key @returns {Promise<Session> | undefined} */
   opened(key) {
-    return this.all.find(it => it.key === key)?.open();
+    return EXAMPLES.find(it => it.key === key)?.open();
   }
 
   /** What a session is called as an example, or null if it is none.
       @param {Session} session */
   async keyOf(session) {
-    for (const { key, open } of this.all) {
+    for (const { key, open } of EXAMPLES) {
       if (isSameSession(await open(), session)) return key;
     }
     return null;

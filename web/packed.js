@@ -80,10 +80,8 @@ async function withFiles({ files, ...session }) {
   return { ...session, files: Object.fromEntries(await Promise.all(found)) };
 }
 
-// The session in the file, as its text and as itself.
+// The session in the file, as its text: it may be the key of an example.
 export const packedText = () => textOf("session");
-
-export const packedSession = () => sessionOfText(packedText());
 
 /** What the page showed as it was saved, or null.
     @returns {import("./kept.js").Shown | null} */
@@ -94,11 +92,24 @@ export const packedShown = () => JSON.parse(textOf("shown") || "null");
  * @typedef {{key: string, title: string, open: () => Promise<Session>}} Example
  */
 
+/** @type {Promise<any[]> | null} the sessions of the examples, once one is asked for */
+let sessions = null;
+
+/** @param {number} at */
+async function openExample(at) {
+  sessions ??= inflated(textOf("sessions")).then(it => JSON.parse(new TextDecoder().decode(it)));
+  return withFiles((await sessions)[at]);
+}
+
 /** The examples in the file, in order.
-    @returns {Example[]} */
-export const packedExamples = () =>
-  JSON.parse(textOf("examples") || "[]").map((/** @type {any} */ { key, title, ...session }) => (
-    { key, title, open: () => withFiles(session) }));
+    @type {Example[]} */
+export const EXAMPLES = JSON.parse(textOf("examples") || "[]").map(
+  (/** @type {any} */ it, /** @type {number} */ at) => ({ ...it, open: () => openExample(at) }));
+
+export function packedSession() {
+  const { example, ...held } = JSON.parse(packedText());
+  return EXAMPLES.find(it => it.key === example)?.open() ?? withFiles(held);
+}
 
 /** The text of this page's file with another session in it, and what is shown of it.
     @param {Session} session @param {import("./kept.js").Shown | null} shown */

@@ -8,7 +8,7 @@ import subprocess
 import tempfile
 import unittest
 from pathlib import Path
-from typing import Any
+from typing import Any, Sequence
 
 from nezdrab.export.page_file import EMPTY, PageSession, unpacked_bytes
 from page import bundle
@@ -54,8 +54,10 @@ class Case(unittest.TestCase):
         for name, text in texts.items():
             (self.folder / name).write_text(text)
 
-    def packed(self, session: PageSession = EMPTY) -> str:
-        return bundle.page(self.folder / "index.html", {"search": b"\0asm"}, session)
+    def packed(
+        self, session: PageSession = EMPTY, examples: Sequence[bundle.Example] = ()
+    ) -> str:
+        return bundle.page(self.folder / "index.html", {"search": b"\0asm"}, session, examples)
 
     def element(self, text: str, name: str) -> str:
         start = rf'<script type="[a-z/]+" id="{re.escape(name)}">'
@@ -75,12 +77,21 @@ class Packed(Case):
         self.assertNotRegex(self.packed(), r"(?m)^(import|export) ")
 
     def test_comments_alone_in_their_lines_are_left_out(self) -> None:
-        """A comment that code follows or precedes stays, and the code between two does."""
-        text = "/** two\n  * lines */\nexport const two = 2;\n/** @type {a} */ (two);\n"
-        self.write({"two.js": f"{text}// a line\nconst it = two; // stays\n/* last */\n"})
-        wanted = "const two = 2;\n/** @type {a} */ (two);\nconst it = two; // stays\nreturn {"
+        """A comment that code follows or precedes stays, and the code between two does. The types
+        of casts, blank lines and indents are left out too."""
+        text = "/** two\n  * lines */\nexport const two = 2;\n\n/** a */ (/** @type {a} */ (two))\n"
+        self.write({"two.js": f"{text}// a line\n\n  const it = two; // stays\n/* last */\n"})
+        self.write({"style.css": "/* a line */\n\nb {\n  top: 0;\n}\n"})
+        wanted = "const two = 2;\n/** a */ ((two))\nconst it = two; // stays\nreturn {"
         self.assertIn(wanted, self.packed())
         self.assertNotIn("a line", self.packed())
+        self.assertIn("<style>\nb {\ntop: 0;\n}\n</style>", self.packed())
+
+    def test_a_literal_of_several_lines_keeps_them(self) -> None:
+        text = "// out\nexport const two = `\n\n  a`;\n"
+        self.write({"two.js": text})
+        self.assertIn("const two = `\n\n  a`;\nreturn {", self.packed())
+        self.assertNotIn("out", self.packed())
 
     def test_the_same_bytes_each_time(self) -> None:
         self.assertEqual(self.packed(SESSION), self.packed(SESSION))
@@ -94,6 +105,20 @@ class Packed(Case):
         wanted = {"arguments": SESSION.arguments, "lines": SESSION.lines}
         self.assertEqual(session, {"name": SESSION.name, **wanted})
         self.assertEqual(unpacked_bytes(self.element(text, "search.wasm")), b"\0asm")
+
+    def test_examples_are_packed_and_a_session_among_them_is_named(self) -> None:
+        one, two = SESSION._replace(name="one"), SESSION._replace(name="two")
+        examples = [bundle.Example("a", "One", one), bundle.Example("b", "Two", two)]
+        text = self.packed(two, examples)
+        self.assertEqual(json.loads(self.element(text, "session")), {"example": "b"})
+        names = json.loads(self.element(text, "examples"))
+        self.assertEqual(
+            names, [{"key": "a", "title": "One"}, {"key": "b", "title": "Two"}]
+        )
+        held = json.loads(unpacked_bytes(self.element(text, "sessions")))
+        self.assertEqual([it["name"] for it in held], ["one", "two"])
+        other: Any = json.loads(self.element(self.packed(SESSION, examples), "session"))
+        self.assertEqual((other["name"], other["lines"]), (SESSION.name, SESSION.lines))
 
     def test_the_policy_lets_run_what_is_packed_alone(self) -> None:
         text = self.packed(SESSION)
@@ -174,6 +199,8 @@ class ByTool(Case):
         self.assertEqual(self.web("--programs", ".", "page.html"), "page.html\n")
         text = (self.folder / "page.html").read_text()
         session = json.loads(self.element(text, "session"))
+        self.assertEqual(session, {"example": "ledger"})
+        session = json.loads(unpacked_bytes(self.element(text, "sessions")))[0]
         self.assertEqual(session["name"], "ledger.session")
         self.assertEqual(sorted(session["files"]), ["kernel.sym", "user.sym"])
         self.assertEqual(self.web("--programs", ".", "none/it.html", status=1).count("\n"), 1)
@@ -221,7 +248,7 @@ class ByExplore(Case):
         wanted = {"name": "", "arguments": [], "lines": [], "files": {}}
         self.assertEqual(self.session("nezdrab.html"), wanted)
         packed = (ROOT / "release" / "nezdrab.html").read_text()
-        for name in "examples", "search.wasm", "machine-worker.js":
+        for name in "examples", "sessions", "search.wasm", "machine-worker.js":
             text = self.element((self.folder / "nezdrab.html").read_text(), name)
             self.assertEqual(text, self.element(packed, name))
 

@@ -1,7 +1,8 @@
 """Packs a page of web/ into one file that opens from a disk: the page with its style, its modules
 as one script, and in elements of their own, which a browser doesn't run, the text of the worker,
-the WebAssembly modules, a session and examples. A content security policy allows what is packed to
-run, and nothing elsewhere to be reached.
+the WebAssembly modules, a session and examples. The examples are packed together; a session that
+is one of them is named by its key. A content security policy allows what is packed to run, and
+nothing elsewhere to be reached.
 
 A module imports by lines `import { a, b } from "./name.js";`, and exports functions, classes and
 constants where they are declared. In the script each module is a function that returns what it
@@ -13,14 +14,17 @@ from pathlib import Path
 from typing import Mapping, NamedTuple, Sequence
 
 from nezdrab.export.page_file import EMPTY, SESSION, PageSession, as_json, element, json_element
-from nezdrab.export.page_file import packed_bytes
+from nezdrab.export.page_file import json_text, packed_bytes
 
 WORKER = "machine-worker.js"
+SESSIONS = "sessions"
 IMPORT = re.compile(r'^import \{([^}]*)\} from "\./([a-z-]+\.js)";\n', re.M)
 EXPORT = re.compile(r"^export (?=(?:async )?(?:function|class|const) (\w+))", re.M)
-# A comment alone in its lines. One that code follows stays.
+# A comment alone in its lines, and the type of a cast. Another one that code follows stays.
 COMMENT = re.compile(r"^[ \t]*(?:/\*(?:(?!\*/).)*\*/|//[^\n]*)[ \t]*\n", re.M | re.S)
+CAST = re.compile(r"/\*\* @type (?:(?!\*/).)*\*/ (?=\()", re.S)
 INDENT = re.compile(r"^[ \t]+", re.M)
+BLANK = re.compile(r"\n{2,}")
 OTHER_FORMS = re.compile(r"^(?:import|export)\b.*|\bimport(?:\(|\.meta)", re.M)
 ENDS_SCRIPT = re.compile(r"</script|<!--", re.I)
 SCRIPT = re.compile(r'<script type="module" src="([a-z-]+\.js)"></script>')
@@ -66,17 +70,17 @@ def in_order(folder: Path, entry: str) -> list[str]:
     return found
 
 
-def without_indent(text: str) -> str:
-    """A module's text, its lines not indented, unless one may be a part of a longer literal."""
-    lines = text.split("\n")
-    are_whole = all(it.count("`") % 2 == 0 and not it.endswith("\\") for it in lines)
-    return INDENT.sub("", text) if are_whole else text
+def stripped(text: str) -> str:
+    """A module's text or a style without the comments, the blank lines and the indents that web/
+    has. If a line may be a part of a longer literal, only the comments are left out."""
+    text = CAST.sub("", COMMENT.sub("", text))
+    are_whole = all(it.count("`") % 2 == 0 and not it.endswith("\\") for it in text.split("\n"))
+    return BLANK.sub("\n", INDENT.sub("", text)) if are_whole else text
 
 
 def as_function(folder: Path, name: str) -> str:
-    """A module's text, without the lines of comments and the indents that web/ has, as a function
-    that returns what the module exports."""
-    text = without_indent(COMMENT.sub("", text_of(folder / name)))
+    """A module's text as a function that returns what the module exports."""
+    text = stripped(text_of(folder / name))
     exported = EXPORT.findall(text)
     text = EXPORT.sub("", IMPORT.sub(taken, text))
     other = OTHER_FORMS.search(text) or ENDS_SCRIPT.search(text)
@@ -97,8 +101,18 @@ def script_of(folder: Path, entry: str) -> str:
     return f'"use strict";\nconst modules = {{}};\n{functions}'
 
 
-def example_as_json(example: Example) -> dict[str, object]:
-    return {"key": example.key, "title": example.title, **as_json(example.session)}
+def session_as_json(session: PageSession, examples: Sequence[Example]) -> dict[str, object]:
+    """The session, or the key of the example that it is."""
+    held = as_json(session)
+    key = next((it.key for it in examples if as_json(it.session) == held), None)
+    return held if key is None else {"example": key}
+
+
+def of_examples(examples: Sequence[Example]) -> str:
+    """The elements of the examples: their keys and titles, and all their sessions, packed."""
+    names = [{"key": it.key, "title": it.title} for it in examples]
+    sessions = json_text([as_json(it.session) for it in examples]).encode("ascii")
+    return json_element("examples", names) + element("text/plain", SESSIONS, packed_bytes(sessions))
 
 
 def policy(script: str, styles: Sequence[str]) -> str:
@@ -125,7 +139,7 @@ def page(
 ) -> str:
     """The page at `path` with the WebAssembly modules of these programs, the session, and further
     ones that can be opened in it."""
-    text, folder = text_of(path), path.parent
+    text, folder = INDENT.sub("", text_of(path)), path.parent
     entry = SCRIPT.findall(text)
     if len(entry) != 1 or text.count(HEAD) != 1 or re.search(r"\sstyle=", text):
         raise PackingError(
@@ -133,12 +147,11 @@ def page(
             " no attribute style, which its policy forbids"
         )
     script = script_of(folder, entry[0])
-    styles: dict[str, str] = {name: text_of(folder / name) for name in STYLE.findall(text)}
+    styles = {str(it): stripped(text_of(folder / it)) for it in STYLE.findall(text)}
     inside = element("text/plain", WORKER, script_of(folder, WORKER))
     for name in sorted(programs):
         inside += element("text/plain", f"{name}.wasm", packed_bytes(programs[name]))
-    inside += json_element(SESSION, as_json(session))
-    inside += json_element("examples", [example_as_json(it) for it in examples])
+    inside += json_element(SESSION, session_as_json(session, examples)) + of_examples(examples)
     allowed = policy(script, list(styles.values()))
     head = f'<meta http-equiv="Content-Security-Policy" content="{allowed}">\n'
     text = text.replace(HEAD, HEAD + head)
