@@ -1,4 +1,5 @@
-"""A program in a worker of a page, asked by web/machine.js in chromium and Firefox."""
+"""A program in a worker of a page, asked by web/machine.js in chromium and Firefox. A run, of
+web/run.js, has the edits that its machine takes up again."""
 import json
 import shutil
 import tempfile
@@ -30,11 +31,14 @@ PAGE = """\
 SCRIPT = """\
 import { Ended, Machine, Stopped } from "./machine.js";
 import { packedSession, pageWith } from "./packed.js";
+import { Run } from "./run.js";
 
 const why = error =>
   [error instanceof Stopped ? "Stopped" : "", error.status ?? null, error.message];
 const tried = (machine, lines) => machine.ask(lines).catch(why);
-Object.assign(self, { Ended, Machine, Stopped, packedSession, pageWith, tried });
+const sent = (run, lines) => run.send(lines).catch(why);
+const newRun = () => new Run({ arguments: [], files: {} });
+Object.assign(self, { Ended, Machine, Stopped, newRun, packedSession, pageWith, sent, tried });
 document.documentElement.dataset.state = "ready";
 """
 # INC R1; BR .-2
@@ -84,17 +88,17 @@ class InFirefox(unittest.TestCase):
         self.addCleanup(browser.close)
         browser.open(address)
         lines = json.dumps([*LOOP, "at 5 key 101", "regs 4"])
-        browser.value("self.it = new Machine(), null")
-        replies = browser.value(f"tried(it, {lines})")
-        self.assertEqual(replies[:3], ["ok\n", "ok\n", "event 1\n"])
-        self.assertRegex(replies[3], "^R0 000000 R1 000002 .* run\n$")
+        browser.value("self.it = newRun(), null")
+        replies = browser.value(f"sent(it, {lines})")
+        self.assertEqual(replies[:3], ["ok", "ok", "event 1"])
+        self.assertRegex(replies[3], "^R0 000000 R1 000002 .* run$")
         stopped = browser.value(
-            f"(async () => {{ const asked = tried(it, ['{LONG}']);"
+            f"(async () => {{ const asked = sent(it, ['{LONG}']);"
             "await new Promise(resolve => setTimeout(resolve, 300));"
-            "it.stop(); return [(await asked)[0], ...await tried(it, ['mem 0 1000 2', 'drop 1'])];"
+            "it.stop(); return [(await asked)[0], ...await sent(it, ['mem 0 1000 2', 'drop 1'])];"
             "})()"
         )
-        self.assertEqual(stopped, ["Stopped", "mem 005201 000776\n", "ok\n"])
+        self.assertEqual(stopped, ["Stopped", "mem 005201 000776", "ok"])
         asked = "tried(new Machine({program: 'disassemble'}), ['1000 012700 5 0'])"
         self.assertEqual(browser.value(asked), ["2 MOV #5,R0\n"])
         self.assertEqual(browser.said(), [])
@@ -137,8 +141,15 @@ class Machines(unittest.TestCase):
         assert isinstance(found, list)
         return found
 
+    def begin_run(self) -> None:
+        self.browser.value("self.it = newRun(); null")
+
+    def send(self, *lines: str) -> list[Any]:
+        """What the machine of a run replies at once, without line feeds at the ends."""
+        return list(self.value(f"return sent(it, {json.dumps(lines)})"))
+
     def edits(self) -> list[str]:
-        return list(self.value("return it.edits"))
+        return list(self.value("return it.ledger.lines"))
 
     def test_each_line_has_its_reply(self) -> None:
         self.begin()
@@ -151,6 +162,13 @@ class Machines(unittest.TestCase):
         self.assertEqual(self.ask(), [])
         self.assertEqual(self.ask("a" * 9999), ["refused 11 LineTooLong\n"])
         self.assertEqual(self.ask("\u010a\u2028\u00e9"), ["refused 10 BadLine\n"])
+
+    def test_a_run_holds_the_edits_that_were_taken(self) -> None:
+        self.begin_run()
+        lines = "at 2 key 101", "# a comment", "at 3 key 102", "undo", "nothing", "core 1 1"
+        replies = self.send(*LOOP, *lines)
+        refused = ["refused 10 BadLine", "refused 3 OddAddress"]
+        self.assertEqual(replies, ["ok", "ok", "event 1", "", "event 2", "ok", *refused])
         self.assertEqual(self.edits(), [*LOOP, "at 2 key 101"])
 
     def test_the_stored_sessions(self) -> None:
@@ -168,27 +186,27 @@ class Machines(unittest.TestCase):
             self.value("it.close()")
 
     def test_a_stopped_question(self) -> None:
-        self.begin()
-        self.ask(*LOOP, "at 5 key 101", "at 6 key 102", "drop 1")
+        self.begin_run()
+        self.send(*LOOP, "at 5 key 101", "at 6 key 102", "drop 1")
         stopped = self.value(
-            f"const asked = tried(it, ['at 7 key 103', '{LONG}']);"
-            "const next = tried(it, ['regs 1']);"
+            f"const asked = sent(it, ['at 7 key 103', '{LONG}']);"
+            "const next = sent(it, ['regs 1']);"
             "await new Promise(resolve => setTimeout(resolve, 300));"
             "it.stop(); return [await asked, await next];"
         )
         self.assertEqual([it[0] for it in stopped], ["Stopped", "Stopped"])
         self.assertEqual(self.edits(), [*LOOP, "at 5 key 101", "at 6 key 102", "drop 1"])
-        replies = self.ask("alter 2 9 key 104", "drop 1", "at 8 key 105", "mem 0 1000 2")
-        wanted = ["ok\n", "refused 5 NoSuchEvent\n", "event 3\n", "mem 005201 000776\n"]
+        replies = self.send("alter 2 9 key 104", "drop 1", "at 8 key 105", "mem 0 1000 2")
+        wanted = ["ok", "refused 5 NoSuchEvent", "event 3", "mem 005201 000776"]
         self.assertEqual(replies, wanted)
 
     def test_stopped_more_than_once(self) -> None:
-        self.begin()
-        self.ask(*LOOP)
+        self.begin_run()
+        self.send(*LOOP)
         self.value("it.stop(); it.stop(); it.stop();")
-        self.assertEqual(self.ask("mem 0 1000 1"), ["mem 005201\n"])
-        self.value("it.close(); it.close();")
-        self.assertEqual(self.ask("regs 1")[0], "Stopped")
+        self.assertEqual(self.send("mem 0 1000 1"), ["mem 005201"])
+        self.value("it.end(); it.end();")
+        self.assertEqual(self.send("regs 1")[0], "Stopped")
 
     def test_the_page_is_never_blocked(self) -> None:
         """No task of the page takes long, by the processor's time."""
