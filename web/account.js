@@ -7,6 +7,7 @@ import { SPACES } from "./facts.js";
 import { optionOfDrive } from "./options.js";
 import { Kind, MOST_LOOKS, MOST_TURNS_BACK, isWrite } from "./origins.js";
 import { eventInWords } from "./past.js";
+import { onDrive } from "./questions.js";
 import { octal } from "./replies.js";
 import { Values } from "./values.js";
 
@@ -98,12 +99,10 @@ export class Account extends Values {
       @param {number} cell */
   fromWhere(cell) {
     if (!isOfDrive(cell) && !isCore(cell)) return "";
-    const { past } = this.facts, { drive, at } = wordOfDrive(cell);
-    const named = past.version === 2 ? `${drive} ` : "";
-    const name = isCore(cell) ? `core ${(cell & ~1).toString(8)}`
-      : `disk ${named}${at.toString(8)}`;
+    const { past } = this.facts, word = wordOfDrive(cell);
+    const name = isCore(cell) ? `core ${(cell & ~1).toString(8)}` : `disk ${onDrive(past, word)}`;
     if (past.patches.has(name)) return " (a patch)";
-    const option = `--${isCore(cell) ? "core" : optionOfDrive(drive)}`;
+    const option = `--${isCore(cell) ? "core" : optionOfDrive(word.drive)}`;
     return this.options.includes(option) ? ` (the image of ${option}, or 0 after its end)` : "";
   }
 

@@ -2,8 +2,8 @@
 // its turn, and the path over the timeline.
 
 import { MOST_STEPS, MadeOf, nameOfMade } from "./made.js";
-import { link, make } from "./page.js";
-import { questionOf } from "./picture.js";
+import { make } from "./page.js";
+import { questionOf } from "./questions.js";
 
 // So many levels are drawn further to the right; and so many times more steps are followed.
 const [DEEPEST, INDENT, MORE] = [8, 12, 4];
@@ -73,8 +73,7 @@ export class MadeQuestion {
 
   /** @param {Made} made @returns {HTMLElement[]} */
   inside({ first, lines, isCut, ends, left, isLimited }) {
-    const list = make("ul", { class: "account", "aria-label": "Steps back" },
-      this.item({ ...first, depth: 0, head: "" }), ...lines.map(it => this.item(it)));
+    const list = accountOf(this.app, [first, ...lines], "Steps back");
     const cut = isCut ? ["further lines aren't shown; what follows counts all steps"] : [];
     const more = make("button", { type: "button", onclick: () => this.goFurther() },
       "Follow further");
@@ -82,20 +81,24 @@ export class MadeQuestion {
     return [...[...cut, ...ends].map(it => make("p", {}, sentence(it))), ...unfollowed, list];
   }
 
-  /** A line, whose step a click goes to.
-      @param {{depth: number, head: string, text: string, turn: number | null}} line */
-  item({ depth, head, text, turn }) {
-    const step = turn === null ? text
-      : link(text, `Go to turn ${turn}`, () => this.app.goTo(turn));
-    const made = make("li", { "aria-level": depth + 1 }, head, step);
-    made.style.marginLeft = `${INDENT * Math.min(depth, DEEPEST)}px`;
-    return made;
-  }
-
   goFurther() {
     const { reasons } = this.app;
     return reasons.attempt(() => reasons.show(this.further(), reasons.turn));
   }
+}
+
+/** Lines as a list. What each ends with leads to its turn, if it has one.
+    @param {import("./app.js").App} app
+    @param {{text: string, turn: number | null, depth?: number, head?: string}[]} lines
+    @param {string} label */
+export function accountOf(app, lines, label) {
+  const items = lines.map(({ text, turn, depth = 0, head = "" }) => {
+    const step = turn === null ? text : app.linkTo(turn, text);
+    const made = make("li", { "aria-level": depth + 1 }, head, step);
+    made.style.marginLeft = `${INDENT * Math.min(depth, DEEPEST)}px`;
+    return made;
+  });
+  return make("ul", { class: "account", "aria-label": label }, ...items);
 }
 
 /** The steps of a path, each with the number of the one that is made of it.

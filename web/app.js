@@ -20,10 +20,13 @@ import { Lost } from "./lost.js";
 import { MattersPanel } from "./matters.js";
 import { Notes } from "./notes.js";
 import { Opening } from "./opening.js";
+import { link } from "./page.js";
 import { NamedPasts } from "./pasts.js";
 import { Pictures } from "./pictures.js";
 import { Play } from "./play.js";
 import { Reasons } from "./reasons.js";
+import { AskError, mustBeTaken } from "./replies.js";
+import { Priority } from "./run.js";
 import { Stepping } from "./stepping.js";
 import { StoryPanel } from "./story.js";
 import { Sweep } from "./sweep.js";
@@ -166,9 +169,31 @@ export class App {
     return this.tasks.attempt(work, complain);
   }
 
+  /** Does what the user asks for; `say` says what is wrong with that, if anything is.
+      @param {() => Promise<void>} work @param {(text: string) => void} say */
+  answer(work, say) {
+    return this.attempt(work, error => {
+      if (error instanceof AskError) say(`${error.message}.`);
+      return error instanceof AskError;
+    });
+  }
+
+  /** What asks a machine, and fails at a refusal, until newer work of this kind begins.
+      @param {string} kind @returns {import("./cursor.js").Ask} */
+  asker(kind, run = this.session.run) {
+    const token = this.token(kind);
+    return async lines => (await run.ask(lines, Priority.QUESTION, token)).map(mustBeTaken);
+  }
+
   /** @param {string} text */
   say(text) {
     this.tasks.say(text);
+  }
+
+  /** What goes to a turn, with a text, its number if none is given.
+      @param {number} turn */
+  linkTo(turn, text = String(turn)) {
+    return link(text, `Go to turn ${turn}`, () => this.goTo(turn));
   }
 
   /** Goes to a turn, and to an address in memory, as a place to come back from.

@@ -5,7 +5,7 @@ export const CHARACTER = 6.7;
 const FONT = "11px ui-monospace, Menlo, Consolas, monospace";
 const HATCH = 8;
 const COLOURS = ["ink", "faint", "grid", "counter", "cpu", "disk", "interrupt", "ghost",
-  "accent", "ground", "good", "bad"];
+  "accent", "ground", "good", "bad", "key"];
 
 /**
  * @typedef {import("./lanes.js").View} View

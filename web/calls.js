@@ -4,10 +4,9 @@
 import { markTurn, stateOf } from "./cursor.js";
 import { Facts, SPACES } from "./facts.js";
 import { CHECKED_TURNS, Stacks } from "./levels.js";
-import { element, link, make, table } from "./page.js";
-import { mustBeTaken, octal, visibleName } from "./replies.js";
-import { Priority } from "./run.js";
-import { symbolNear, symbolsOfMode } from "./session.js";
+import { element, make, table } from "./page.js";
+import { octal } from "./replies.js";
+import { symbolAt } from "./session.js";
 
 /**
  * @typedef {import("./levels.js").Level} Level
@@ -32,11 +31,9 @@ export class Calls {
 
   async show() {
     const { app } = this, { run } = app.session, { cursor } = app.view.timeline;
-    const token = app.token("calls"), wanted = stateOf(run, cursor);
+    const wanted = stateOf(run, cursor);
     markTurn(element("calls-turn"), this.shown, wanted);
-    /** @type {import("./cursor.js").Ask} */
-    const ask = async lines => (await run.ask(lines, Priority.QUESTION, token)).map(mustBeTaken);
-    const facts = new Facts(ask, run.past), stacks = new Stacks(facts);
+    const facts = new Facts(app.asker("calls"), run.past), stacks = new Stacks(facts);
     const levels = await stacks.levels(cursor), { pc, ps } = await facts.row(cursor);
     const rows = [this.rowOf(SPACES[ps >> 14] ?? "", pc, make("b", {}, "here"), ""),
       ...levels.map(it => this.level(it))];
@@ -55,7 +52,7 @@ export class Calls {
 
   /** @param {Level} level */
   level({ call: { turn, mode, pc, kind, routine, inside }, doubt }) {
-    const go = link(String(turn), "Go to the turn of the call", () => this.app.goTo(turn));
+    const go = this.app.linkTo(turn);
     const to = this.symbol(SPACES[inside] ?? "", routine);
     const name = `${kind} to ${octal(routine)}${to ? ` ${to}` : ""}`;
     return this.rowOf(SPACES[mode] ?? "", pc, go, doubt ? `${name} (believed: ${doubt})` : name);
@@ -69,6 +66,6 @@ export class Calls {
 
   /** @param {string} mode @param {number} address */
   symbol(mode, address) {
-    return visibleName(symbolNear(symbolsOfMode(this.app.session.symbols, mode), address));
+    return symbolAt(this.app.session.symbols, mode, address);
   }
 }

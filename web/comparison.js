@@ -1,7 +1,9 @@
 // How two pasts differ: the first turn in which they part, text, core and disk.
 
+import { coreWord } from "./cells.js";
 import { SECTOR_WORDS } from "./hardware.js";
 import { differenceOf } from "./past.js";
+import { firstOf, questionOf } from "./questions.js";
 import { Priority } from "./run.js";
 import { WORDS_AT_ONCE, mustBeTaken, wordsOf } from "./replies.js";
 
@@ -96,13 +98,10 @@ export class Comparison {
   /** A turn before which the registers differ, and before the turn before it they don't.
       @param {number} low @param {number} high */
   async halved(low, high) {
-    while (high - low > 1) {
-      const middle = low + high >> 1;
-      const [[now], [old]] = await this.both(() => [`regs ${middle}`]);
-      if (differ(now, old)) high = middle;
-      else low = middle;
-    }
-    return high;
+    return firstOf(low, high, async turn => {
+      const [[now], [old]] = await this.both(() => [`regs ${turn}`]);
+      return differ(now, old);
+    });
   }
 
   /** Words that differ before a turn, the first of them, and how many there are.
@@ -139,8 +138,8 @@ export class Comparison {
 
   /** @param {number} turn */
   core(turn) {
-    return this.words((_, begin, count) =>
-      `mem ${turn} ${(2 * begin).toString(8)} ${count}`, this.run.past.core / 2);
+    return this.words((past, begin, count) =>
+      questionOf(past, coreWord(2 * begin), turn, count), this.run.past.core / 2);
   }
 
   get versionsDiffer() {
@@ -155,10 +154,8 @@ export class Comparison {
 
   /** @param {number} turn @param {number} drive @param {number} sectors */
   disk(turn, drive, sectors) {
-    /** @param {Past} past */
-    const name = past => past.version === 2 ? `${drive} ` : "";
-    return this.words((past, begin, count) =>
-      `dsk ${turn} ${name(past)}${begin.toString(8)} ${count}`, sectors * SECTOR_WORDS);
+    return this.words((past, at, count) =>
+      questionOf(past, { kind: "disk", drive, at }, turn, count), sectors * SECTOR_WORDS);
   }
 }
 

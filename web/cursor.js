@@ -1,12 +1,13 @@
 // What the panels show of the machine before the turn of the cursor.
 
+import { REGISTER_NAMES, coreWord } from "./cells.js";
 import { Machine } from "./machine.js";
 import { Priority } from "./run.js";
 import { element, link, make, table } from "./page.js";
-import { symbolNear as nearest, symbolsOfMode } from "./session.js";
+import { symbolAt } from "./session.js";
 import {
   LAST_TURN, devicesOf, functionInWords, lastOf, octal, pageInWords, pagesOf, physicalOf,
-  registersOf, shownByte, statusInWords, turnsOf, unreadOf, vectorName, visibleName, wordsOf,
+  registersOf, shownByte, statusInWords, turnsOf, unreadOf, vectorName, wordsOf,
 } from "./replies.js";
 
 const [TURNS_BEFORE, INSTRUCTIONS, WORDS_BEFORE_SP, WORDS_OF_MEMORY] = [6, 8, 8, 16];
@@ -14,7 +15,7 @@ const WORDS_OF_AN_INSTRUCTION = 3;
 /** @type {Object<string, "machine" | "memory">} the tab of each panel */
 const PANELS = { devices: "machine", pages: "machine", instructions: "machine", stack: "machine",
   memory: "memory" };
-export const REGISTER_NAMES = ["R0", "R1", "R2", "R3", "R4", "R5", "KSP", "USP", "PC", "PS"];
+export const SHOWN_REGISTERS = [...REGISTER_NAMES, "PC", "PS"];
 
 /**
  * The machine before a turn, as the edits that a run has taken make it; what a panel shows may say
@@ -146,7 +147,7 @@ export class CursorPanels {
 
   /** @param {Registers} old @param {Registers} now */
   showRegisters(old, now) {
-    const cells = REGISTER_NAMES.map(name => {
+    const cells = SHOWN_REGISTERS.map(name => {
       const isChanged = old.words[name] !== now.words[name];
       return make("div", { class: isChanged ? "register changed" : "register" },
         make("dt", {}, name),
@@ -204,10 +205,8 @@ export class CursorPanels {
     const next = await this.nextInstructions(ask, machine);
     /** @param {Instruction} it @param {Inside} turn @returns {Inside[]} */
     const row = (it, turn) => [turn, it.mode, octal(it.pc), it.text, it.symbol];
-    /** @param {number} turn */
-    const goTo = turn => link(String(turn), "Go to this turn", () => this.app.goTo(turn));
     const rows = [
-      ...past.map(it => row(it, goTo(it.turn))),
+      ...past.map(it => row(it, this.app.linkTo(it.turn))),
       ...next.map((it, at) => row(it, at ? this.linksTo(it)
         : make("b", {}, `\u25b6 ${nextInWords(machine)}`))),
     ];
@@ -244,7 +243,7 @@ export class CursorPanels {
     const texts = await this.texts(ask, fetched);
     fetched.forEach((it, number) => { it.text = texts[number].text; });
     return turns.map(it => {
-      const symbol = symbolNear(symbolsOfMode(this.symbols, it.mode), it.pc);
+      const symbol = symbolAt(this.symbols, it.mode, it.pc);
       return { ...it, text: it.text ?? actInWords(it), symbol };
     });
   }
@@ -268,7 +267,7 @@ export class CursorPanels {
     const found = [];
     for (let at = 0; at < texts.length && found.length < INSTRUCTIONS;) {
       const address = pc + 2 * at & 0o177777;
-      const symbol = symbolNear(symbolsOfMode(this.symbols, mode), address);
+      const symbol = symbolAt(this.symbols, mode, address);
       found.push({ mode, pc: address, text: texts[at].text, symbol });
       at += texts[at].words;
     }
@@ -331,17 +330,13 @@ export class CursorPanels {
     const [word] = wordsOf(value);
     const last = lastOf(written);
     const { app } = this;
-    /** @type {WatchedWord} */
-    const drawn = { kind: "core", drive: 0, at: place };
     const watch = link(octal(place), "Draw this word on the timeline",
-      () => app.watched.add(drawn));
-    /** @param {{turn: number, writer: string}} it */
-    const goTo = it => link(`${it.writer}, turn ${it.turn}`, "Go to the turn that wrote it",
-      () => app.goTo(it.turn));
+      () => app.watched.add(coreWord(place)));
     const text = shownByte(word & 0o377) + shownByte(word >> 8);
     const write = () => app.edits.writeLine(`core ${place.toString(8)} `, octal(word));
     const change = link(octal(word), "Change this word as of power-up", write);
-    return [watch, change, text, last ? goTo(last) : "never"];
+    const by = last && app.linkTo(last.turn, `${last.writer}, turn ${last.turn}`);
+    return [watch, change, text, by ?? "never"];
   }
 }
 
@@ -425,10 +420,6 @@ export function markTurn(place, shown, wanted, where = "before turn") {
     @param {TheMachine} machine */
 const nextInWords = ({ registers: { state } }) =>
   ({ run: "next", wait: "waits", halted: "halted" })[state];
-
-/** The symbol near an address, with what can't be seen written out.
-    @param {Symbol[]} symbols @param {number} address */
-const symbolNear = (symbols, address) => visibleName(nearest(symbols, address));
 
 /** @param {Turn} turn */
 function actInWords({ act, vector }) {

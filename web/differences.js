@@ -1,6 +1,6 @@
 // Shows how the old past and the new one differ.
 
-import { link, make, table } from "./page.js";
+import { make, table } from "./page.js";
 import { octal } from "./replies.js";
 
 const COMPARED_SECTORS = 96;
@@ -12,10 +12,10 @@ const COMPARED_SECTORS = 96;
  */
 
 export class Differences {
-  /** @param {HTMLElement} place @param {(turn: number) => void} onTurn */
-  constructor(place, onTurn) {
+  /** @param {HTMLElement} place @param {import("./app.js").App} app */
+  constructor(place, app) {
     this.place = place;
-    this.onTurn = onTurn;
+    this.app = app;
   }
 
   showNone() {
@@ -52,7 +52,7 @@ export class Differences {
 
   /** @param {number} same */
   sameLine(same) {
-    const go = link(`turn ${same}`, "Go there", () => this.onTurn(same));
+    const go = this.app.linkTo(same, `turn ${same}`);
     return make("p", {}, "From ", go, " on the run is the old one again.");
   }
 
@@ -67,7 +67,7 @@ export class Differences {
       return make("p", {}, "No difference of the registers was found: "
         + `they were ${compared}. Between those it isn't known.`);
     }
-    const go = link(`turn ${turn}`, "Go there", () => this.onTurn(turn));
+    const go = this.app.linkTo(turn, `turn ${turn}`);
     if (!later) return make("p", {}, "The registers first differ before ", go, ".");
     return make("p", {}, "The registers differ before ", go,
       `. They were ${compared}: between those they may have differed before.`);

@@ -1,7 +1,7 @@
 // The images of drives 0 to 7: a line for each drive, with which an image is chosen, dropped or
 // taken away.
 
-import { takeDrops } from "./files.js";
+import { takeChosen, takeDrops } from "./files.js";
 import { BYTES_OF_A_DRIVE, checkSize, readFiles } from "./given.js";
 import { foreignOf } from "./kinds.js";
 import { DRIVES } from "./memory.js";
@@ -62,12 +62,7 @@ export class Drives {
     this.last = Promise.resolve();
     this.rows = [...Array(DRIVES).keys()].map(drive => this.row(drive));
     element("drive-list").append(...this.rows);
-    const chooser = field("drive-file");
-    chooser.addEventListener("change", () => {
-      const files = [...chooser.files ?? []];
-      chooser.value = "";
-      if (files.length) this.give(this.chosen, files);
-    });
+    takeChosen(field("drive-file"), files => this.give(this.chosen, files));
   }
 
   sessionBegins() {

@@ -2,7 +2,7 @@
 
 import { keepEdits, sumOf } from "./kept.js";
 import { checkPlace, patchesOf } from "./loading.js";
-import { element, field, itemsOf, make } from "./page.js";
+import { element, field, itemsOf, link, make } from "./page.js";
 import { isEdit, wordsOfLine } from "./past.js";
 import { isRefused } from "./replies.js";
 import { Priority } from "./run.js";
@@ -99,6 +99,12 @@ export class Edits {
   openEvent(event) {
     field("follow-event").value = String(event.number);
     this.writeLine(`alter ${event.number} `, String(event.turn), ` ${event.text}`);
+  }
+
+  /** What opens an event's edit, with a text, its number if none is given.
+      @param {ScriptEvent} event */
+  linkTo(event, text = String(event.number)) {
+    return link(text, "Open the event", () => this.openEvent(event));
   }
 
   /** Puts a line into the field, with the part selected that is to be changed.

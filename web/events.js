@@ -138,7 +138,7 @@ export class EventList {
   /** @param {ScriptEvent} event */
   row(event) {
     const { app } = this, { number, turn } = event, words = eventInWords(event);
-    const goTo = link(String(turn), "Go to this turn", () => app.goTo(turn));
+    const goTo = app.linkTo(turn);
     Object.assign(goTo.dataset, { turn, name: `turn of ${number}` });
     const move = () => app.edits.edit(`alter ${number} ${app.view.timeline.cursor} ${event.text}`);
     /** @param {string} text @param {string} what @param {() => void} onclick */

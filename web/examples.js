@@ -1,7 +1,7 @@
 // The sessions that the page has besides the one that it begins with, and a disk or a program of
 // the user on a machine of its own.
 
-import { sessionOfFiles, takeDrops } from "./files.js";
+import { sessionOfFiles, takeChosen, takeDrops } from "./files.js";
 import { kindOf, readFiles } from "./given.js";
 import { firstSession, forgetSession, keepSession, sumOfSession } from "./kept.js";
 import { EXAMPLES, packedSession } from "./packed.js";
@@ -77,11 +77,7 @@ export class Examples {
   listenForDisks() {
     const chooser = field("boot-file"), button = element("boot");
     button.addEventListener("click", () => chooser.click());
-    chooser.addEventListener("change", () => {
-      const files = [...chooser.files ?? []];
-      chooser.value = "";
-      if (files.length) this.boot(files);
-    });
+    takeChosen(chooser, files => this.boot(files));
     takeDrops(button, files => this.boot(files));
   }
 

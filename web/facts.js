@@ -1,12 +1,13 @@
 // What rules of data ask of the machine about turns, in the numbers of the program's replies.
 
+import { REGISTER_NAMES } from "./cells.js";
+import { onDrive } from "./questions.js";
 import {
-  TURNS_OF_A_TRAIL, devicesOf, lastOf, mustBeTaken, physicalOf, turnOf, turnsOf, wordsOf,
+  TURNS_OF_A_TRAIL, devicesOf, lastOf, mustBeTaken, physicalOf, registersOf, turnOf, turnsOf,
+  wordsOf,
 } from "./replies.js";
 import { stayed, transfersOf } from "./transfers.js";
 
-const WORDS_OF_ROW = ["R0", "R1", "R2", "R3", "R4", "R5", "KSP", "USP", "PC", "PS"];
-const REGISTERS = new RegExp(`^${WORDS_OF_ROW.map(it => `${it} ([0-7]{6})`).join(" ")} \\w+$`);
 /** The modes by their two bits in PS; those between have no pages. */
 export const SPACES = ["kernel", null, null, "user"];
 export const KERNEL = 0;
@@ -29,10 +30,8 @@ const TRAPS = [0o4, 0o10, 0o250];
 
 /** @param {string} reply @returns {Row} */
 export function rowOfReply(reply) {
-  const found = REGISTERS.exec(mustBeTaken(reply));
-  if (!found) throw new Error("a reply of `regs` can't be read");
-  const words = found.slice(1).map(it => parseInt(it, 8));
-  return { words: words.slice(0, 8), pc: words[8], ps: words[9] };
+  const { words, pc, ps } = registersOf(mustBeTaken(reply));
+  return { words: REGISTER_NAMES.map(it => words[it]), pc, ps };
 }
 
 export class Facts {
@@ -107,23 +106,10 @@ export class Facts {
     return wordsOf(await this.one(`mem ${turn} ${address.toString(8)} ${count}`));
   }
 
-  /** A word of a drive as lines name it.
-      @param {Word} word */
-  onDrive({ drive, at }) {
-    return `${this.past.version === 2 ? `${drive} ` : ""}${at.toString(8)}`;
-  }
-
-  /** The question that has a word of core or of a drive before a turn.
-      @param {number} turn @param {Word} word */
-  lineOfWord(turn, word) {
-    return word.kind === "core" ? `mem ${turn} ${word.at.toString(8)} 1`
-      : `dsk ${turn} ${this.onDrive(word)} 1`;
-  }
-
   /** The first turns before `end` that change a word of a drive, at most so many.
       @param {Word} word @param {number} end @param {number} most */
   async changes(word, end, most) {
-    const found = [], place = this.onDrive(word);
+    const found = [], place = onDrive(this.past, word);
     for (let from = 0; from < end && found.length < most; from = found[found.length - 1] + 1) {
       const turn = turnOf(await this.one(`change ${from} ${end} ${place}`));
       if (turn === null) break;

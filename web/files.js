@@ -205,6 +205,16 @@ function withOptions(session, words, left, take) {
   return { ...session, files, arguments: wordsOfOptions(all) };
 }
 
+/** Takes files that are chosen by a field.
+    @param {HTMLInputElement} chooser @param {(files: File[]) => void} onFiles */
+export function takeChosen(chooser, onFiles) {
+  chooser.addEventListener("change", () => {
+    const files = [...chooser.files ?? []];
+    chooser.value = "";
+    if (files.length) onFiles(files);
+  });
+}
+
 /** Takes files that are dropped on a place. What is around it doesn't get them.
     @param {HTMLElement} place @param {(files: File[]) => void} onFiles */
 export function takeDrops(place, onFiles) {

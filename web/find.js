@@ -3,17 +3,14 @@
 
 import { nameOfWord, wordNamed } from "./names.js";
 import { choice, element, field } from "./page.js";
+import { onDrive } from "./questions.js";
 import {
-  bytesOf, lastOf, lengthOf, mustBeTaken, turnOf, vectorNamed, visibleName, writesOf,
+  AskError, bytesOf, lastOf, lengthOf, turnOf, vectorNamed, visibleName, writesOf,
 } from "./replies.js";
-import { Priority } from "./run.js";
 import { latin1 } from "./session.js";
 
 // Changes of a drive are searched forwards alone: backwards in stretches, each twice as long.
 const [FIRST_STRETCH, MOST_CHANGES] = [65_536, 4_096];
-
-/** Why something can't be looked for, for the user to read. */
-export class FindError extends Error {}
 
 /**
  * The cursor's turn, the last turn that is searched, and what asks one line.
@@ -43,30 +40,21 @@ export class Finder {
   find(direction) {
     const { app } = this, { cursor } = app.view.timeline;
     const kind = this.kind.value, what = this.what.value.trim();
-    const token = app.token("find");
+    const ask = app.asker("find");
     this.say("");
-    return app.attempt(async () => {
-      const { run, end } = app.session;
+    return app.answer(async () => {
       if (!what) {
         this.say("Say what to find.");
         return;
       }
       /** @param {string} line */
-      const one = line => run.askOne(line, Priority.QUESTION, token).then(mustBeTaken);
-      const last = Math.max(end, cursor);
+      const one = async line => (await ask([line]))[0];
+      const last = Math.max(app.session.end, cursor);
       const turn = await this.foundBy(kind, what, direction, { cursor, end: last, one });
       const where = direction > 0 ? `after turn ${cursor}, up to ${last}` : `before turn ${cursor}`;
       if (turn !== null) app.goTo(turn);
       this.say(turn === null ? `None ${where}.` : `Turn ${turn}.`);
-    }, error => this.complain(what, error));
-  }
-
-  /** Says why something can't be found; returns whether that is so.
-      @param {string} what @param {any} error */
-  complain(what, error) {
-    const isKnown = error instanceof FindError || error.reply !== undefined;
-    if (isKnown) this.say(`${visibleName(what)}: ${error.message}.`);
-    return isKnown;
+    }, why => this.say(`${visibleName(what)}: ${why}`));
   }
 
   /** @param {string} kind @param {string} what @param {number} direction @param {Turns} turns
@@ -96,14 +84,14 @@ export class Finder {
       const symbol = this.app.session.symbols[mode].find(it => it.name === what);
       if (symbol) return `${symbol.value.toString(8)} ${mode}`;
     }
-    throw new FindError("no symbol has this name, and an address is octal");
+    throw new AskError("no symbol has this name, and an address is octal");
   }
 
   /** An interrupt or a trap by a vector, whichever comes first.
       @param {string} what @param {number} direction @param {Turns} turns */
   async vector(what, direction, turns) {
     const vector = /^[0-7]{1,3}$/.test(what) ? parseInt(what, 8) : vectorNamed(what);
-    if (vector === null) throw new FindError("a vector is octal, or a name such as clock");
+    if (vector === null) throw new AskError("a vector is octal, or a name such as clock");
     /** @type {number[]} */
     const found = [];
     for (const kind of ["vector", "trap"]) {
@@ -132,7 +120,7 @@ export class Finder {
     const called = [...watched.called].find(([, name]) => name === what)?.[0];
     const symbol = symbols.kernel.find(it => it.name === what);
     const word = wordNamed(called ?? what) ?? (symbol && wordNamed(symbol.value.toString(8)));
-    if (!word) throw new FindError("a word is named as 2000, core 2000, disk 0 or disk 1 0 are");
+    if (!word) throw new AskError("a word is named as 2000, core 2000, disk 0 or disk 1 0 are");
     return word;
   }
 
@@ -149,11 +137,12 @@ export class Finder {
   /** @param {WatchedWord} word @param {number} direction @param {Turns} turns
       @returns {Promise<number | null>} */
   async change(word, direction, { cursor, end, one }) {
-    const drive = this.app.session.run.past.version === 2 ? `${word.drive} ` : "";
-    if (word.drive && !drive) throw new FindError(`${nameOfWord(word)}: there is one drive`);
+    const { past } = this.app.session.run, place = onDrive(past, word);
+    if (word.drive && past.version === 1) {
+      throw new AskError(`${nameOfWord(word)}: there is one drive`);
+    }
     /** @type {Next} */
-    const next = async (from, to) =>
-      turnOf(await one(`change ${from} ${to} ${drive}${word.at.toString(8)}`));
+    const next = async (from, to) => turnOf(await one(`change ${from} ${to} ${place}`));
     if (direction > 0) return next(Math.min(cursor + 1, end), end);
     let to = cursor;
     for (let length = FIRST_STRETCH; to > 0; length *= 2) {
@@ -172,7 +161,7 @@ export class Finder {
       /** @type {number | null} */
       const turn = await next(last === null ? from : last + 1, to);
       if (turn === null) return last;
-      if (count === MOST_CHANGES) throw new FindError("it changes too often to search back");
+      if (count === MOST_CHANGES) throw new AskError("it changes too often to search back");
       last = turn;
     }
   }

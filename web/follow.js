@@ -1,11 +1,12 @@
 // The panel that follows an event: what became of a key, or of the switches, with its path over the
 // timeline.
 
+import { accountOf } from "./accounts.js";
 import { Followed } from "./followed.js";
-import { FormError, Inquiry, numberIn } from "./inquiry.js";
+import { Inquiry, numberIn } from "./inquiry.js";
 import { element, field, make } from "./page.js";
 import { eventInWords } from "./past.js";
-import { LAST_TURN } from "./replies.js";
+import { AskError, LAST_TURN } from "./replies.js";
 
 const FOLLOWED_TURNS = 10_000;
 
@@ -43,11 +44,9 @@ export class Follow extends Inquiry {
 
   /** The event that the form names. */
   chosen() {
-    const { past } = this.app.session.run, name = field("follow-event").value.trim();
-    const event = /^\d+$/.test(name) ? past.events.get(Number(name)) : undefined;
-    if (!event) throw new FormError("No event has this number.");
+    const event = this.event();
     if (/^(key|switches) /.test(event.text)) return event;
-    throw new FormError(`Event ${event.number} is ${event.text}: it brings no data.`);
+    throw new AskError(`Event ${event.number} is ${event.text}: it brings no data`);
   }
 
   /** The turn before which it ends: the cursor's if that comes after the event, and no later than
@@ -56,7 +55,7 @@ export class Follow extends Inquiry {
   endAfter(turn) {
     const { cursor } = this.app.view.timeline, most = Math.min(turn + FOLLOWED_TURNS, LAST_TURN);
     const end = numberIn("follow-to", "A turn", cursor > turn ? Math.min(cursor, most) : most);
-    if (end <= turn) throw new FormError(`The event is in turn ${turn}: follow it to a later one.`);
+    if (end <= turn) throw new AskError(`The event is in turn ${turn}: follow it to a later one`);
     return end;
   }
 
@@ -71,8 +70,8 @@ export class Follow extends Inquiry {
     const first = { turn, lane: "events", text:
       `turn ${turn}: event ${number}, ${eventInWords(event)}` };
     if (why) ends.push(`the turns from ${followed.end} on weren't looked at: ${why}`);
-    this.showLines([first, ...lines], "What became of it");
-    this.found.append(...ends.map(it => make("p", {}, it)));
+    this.found.append(accountOf(this.app, [first, ...lines], "What became of it"),
+      ...ends.map(it => make("p", {}, it)));
     this.showPath([first, ...lines]);
     this.say(`Event ${number}, up to turn ${followed.end}:`);
   }

@@ -10,6 +10,7 @@ import { Labels } from "./labels.js";
 import { nameOfWord } from "./names.js";
 import { eventsWithData } from "./origins.js";
 import { eventInWords } from "./past.js";
+import { questionOf } from "./questions.js";
 import { counted, lengthOf, octal, turnOf, wordsOf } from "./replies.js";
 import { copiedBy } from "./transfers.js";
 
@@ -160,7 +161,8 @@ export class Followed {
       @param {Transfer} transfer @param {number | null} cell */
   async valueOf({ turn }, cell) {
     if (cell === null) return "";
-    const { facts } = this, reply = await facts.one(facts.lineOfWord(turn + 1, wordOf(cell)));
+    const { facts } = this;
+    const reply = await facts.one(questionOf(facts.past, wordOf(cell), turn + 1));
     return `: ${octal(wordsOf(reply)[0])}`;
   }
 

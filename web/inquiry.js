@@ -3,8 +3,8 @@
 
 import { Facts } from "./facts.js";
 import { Stopped } from "./machine.js";
-import { element, field, link, make } from "./page.js";
-import { LAST_TURN, TURNS_OF_A_TRAIL, mustBeTaken } from "./replies.js";
+import { element, field, onSubmit } from "./page.js";
+import { AskError, LAST_TURN, TURNS_OF_A_TRAIL, mustBeTaken } from "./replies.js";
 import { Priority } from "./run.js";
 import { NotFollowed } from "./space.js";
 import { Flows } from "./turn-flow.js";
@@ -17,21 +17,13 @@ export const TIME_BETWEEN = 250;
  * @typedef {import("./run.js").Run} Run
  */
 
-/** What is wrong in a form, for the user to read. */
-export class FormError extends Error {}
-
 /** The number in a field; without a text there it is `usual`.
     @param {string} id @param {string} what @param {number} usual */
 export function numberIn(id, what, usual, least = 0, most = LAST_TURN) {
   const text = field(id).value.trim(), number = text ? Number(text) : usual;
   if (/^\d{0,10}$/.test(text) && number >= least && number <= most) return number;
-  throw new FormError(`${what} is a number from ${least} to ${most}.`);
+  throw new AskError(`${what} is a number from ${least} to ${most}`);
 }
-
-/** A turn in words, that a click goes to.
-    @param {import("./app.js").App} app @param {number} turn */
-export const turnLink = (app, turn, text = String(turn)) =>
-  link(text, `Go to turn ${turn}`, () => app.goTo(turn));
 
 export class Inquiry {
   /** The elements of the panel have ids with its name: `-form`, `-stop`, `-said` and `-found`.
@@ -45,10 +37,7 @@ export class Inquiry {
     this.isEnded = false;
     /** When it was said last how far the work is. */
     this.told = 0;
-    element(`${name}-form`).addEventListener("submit", event => {
-      event.preventDefault();
-      this.begin();
-    });
+    onSubmit(`${name}-form`, () => this.begin());
     element(`${name}-stop`).addEventListener("click", () => { this.isEnded = true; });
   }
 
@@ -101,28 +90,45 @@ export class Inquiry {
       @param {Facts} _facts @returns {Promise<void>} */
   async work(_facts) {}
 
+  /** What the form's field of an event has. */
+  get named() {
+    return field(`${this.name}-event`).value.trim();
+  }
+
+  /** The event that the form names. */
+  event() {
+    const event = this.app.session.run.past.eventNamed(this.named);
+    if (!event) throw new AskError("No event has this number");
+    return event;
+  }
+
+  /** The first and the last turn that the form names, or these.
+      @param {number} usualFirst @param {number} usualLast @returns {[number, number]} */
+  turns(usualFirst, usualLast) {
+    const first = numberIn(`${this.name}-from`, "A turn", usualFirst);
+    const last = numberIn(`${this.name}-to`, "A turn", Math.max(usualLast, first + 1));
+    if (last < first) throw new AskError("Give two turns, the first one first");
+    return [first, last];
+  }
+
   begin() {
     const { app, name } = this, { run } = app.session, token = app.token(name);
     this.isEnded = false;
     this.found.replaceChildren();
     this.say("Looking ..");
     this.token = token;
-    return app.attempt(async () => {
+    return app.answer(async () => {
       try {
+        await app.edits.last;
         await this.work(new Facts(asker(run, token), run.past));
+      } catch (error) {
+        // the past is another one, which is told soon
+        if (error instanceof Stopped && this.token === token) this.forget();
+        throw error;
       } finally {
         if (this.token === token) this.token = null;
       }
-    }, error => this.complain(error));
-  }
-
-  /** Says what is wrong with what was asked; returns whether that is so.
-      @param {any} error */
-  complain(error) {
-    const isOfForm = error instanceof FormError;
-    if (!isOfForm && error.reply === undefined) return false;
-    this.say(isOfForm ? error.message : `${error.message}.`);
-    return true;
+    }, why => this.say(why));
   }
 
   /** Takes the flows of turns one after the other. Returns why it ended before the last one, or an
@@ -142,13 +148,6 @@ export class Inquiry {
       throw error;
     }
     return "";
-  }
-
-  /** Shows lines as a list, each with the turn that a click on it goes to, if any.
-      @param {{text: string, turn: number | null}[]} lines @param {string} label */
-  showLines(lines, label) {
-    this.found.append(make("ul", { class: "account", "aria-label": label }, ...lines.map(
-      ({ text, turn }) => make("li", {}, turn === null ? text : turnLink(this.app, turn, text)))));
   }
 }
 

@@ -3,13 +3,12 @@
 
 import { markTurn, stateOf } from "./cursor.js";
 import {
-  IN_A_ROW, PlaceError, bytesOfWords, heldBefore, lineOfFind, placeInWords, placeNamed, placesOf,
+  IN_A_ROW, bytesOfWords, heldBefore, lineOfFind, placeInWords, placeNamed, placesOf,
   rowsOf, stepOf, textOfWords,
 } from "./memory.js";
-import { choice, element, field, link, make, table } from "./page.js";
-import { mustBeTaken, octal, physicalOf, visibleName } from "./replies.js";
-import { Priority } from "./run.js";
-import { symbolNear } from "./session.js";
+import { choice, element, field, link, make, onSubmit, table } from "./page.js";
+import { AskError, octal, physicalOf } from "./replies.js";
+import { symbolAt } from "./session.js";
 
 const MOST_WORDS = 512, WORDS_OF_AN_INSTRUCTION = 3;
 /** @type {Object<string, string>} */
@@ -30,32 +29,12 @@ export class Inspect {
     /** @type {Stretch | null} what is shown, or is to be */
     this.stretch = null;
     this.place = element("inspected");
-    element("inspect-as").addEventListener("change", () => this.follow());
+    element("inspect-as").addEventListener("change", () => this.look());
     element("inspect-space").addEventListener("change", () => this.showSpace());
-    this.onForm("inspect-form", () => this.read());
-    this.onForm("inspect-find", () => this.find(null));
+    onSubmit("inspect-form", () => this.read());
+    onSubmit("inspect-find", () => this.find(null));
     element("inspect-before").addEventListener("click", () => this.turnPage(-1));
     element("inspect-after").addEventListener("click", () => this.turnPage(1));
-  }
-
-  pastChanged() {
-    this.follow();
-  }
-
-  cursorMoved() {
-    this.follow();
-  }
-
-  tabOpened() {
-    this.follow();
-  }
-
-  /** @param {string} id @param {() => void} act */
-  onForm(id, act) {
-    element(id).addEventListener("submit", event => {
-      event.preventDefault();
-      act();
-    });
   }
 
   showSpace() {
@@ -71,18 +50,7 @@ export class Inspect {
   /** Does work, and says what is wrong with what was asked.
       @param {() => Promise<void>} work */
   attempt(work) {
-    return this.app.attempt(work, error => {
-      const isKnown = error instanceof PlaceError || error.reply !== undefined;
-      if (isKnown) this.say(`${error.message}.`);
-      return isKnown;
-    });
-  }
-
-  /** What asks lines; what was asked before isn't any longer.
-      @returns {import("./cursor.js").Ask} */
-  asker() {
-    const { app } = this, { run } = app.session, token = app.token("inspect");
-    return async lines => (await run.ask(lines, Priority.QUESTION, token)).map(mustBeTaken);
+    return this.app.answer(work, why => this.say(why));
   }
 
   /** Shows what the form says. */
@@ -92,13 +60,13 @@ export class Inspect {
     this.say("");
     return this.attempt(async () => {
       if (!(Number.isInteger(count) && count > 0 && count <= MOST_WORDS)) {
-        throw new PlaceError(`the count of words is 1 to ${MOST_WORDS}`);
+        throw new AskError(`the count of words is 1 to ${MOST_WORDS}`);
       }
       const { symbols } = this.app.session, { cursor } = this.app.view.timeline;
       const { drive, at, isVirtual } = placeNamed(space, text || "0", symbols);
       const line = `translate ${cursor} kernel ${at.toString(8)}`;
-      const real = isVirtual ? physicalOf((await this.asker()([line]))[0]) : at;
-      if (real === null) throw new PlaceError("the kernel can't read this address now");
+      const real = isVirtual ? physicalOf((await this.app.asker("inspect")([line]))[0]) : at;
+      if (real === null) throw new AskError("the kernel can't read this address now");
       await this.show({ space, drive, at: real, count });
     });
   }
@@ -114,7 +82,7 @@ export class Inspect {
   }
 
   /** The cursor was moved, or the past has changed. */
-  follow() {
+  look() {
     const { stretch } = this;
     if (!stretch) return;
     this.mark();
@@ -128,7 +96,8 @@ export class Inspect {
 
   /** @param {Stretch} wanted */
   async show(wanted) {
-    const { session: { run }, view: { timeline: { cursor } } } = this.app, ask = this.asker();
+    const { app } = this, { session: { run }, view: { timeline: { cursor } } } = app;
+    const ask = app.asker("inspect");
     this.stretch = wanted;
     this.mark();
     const held = await heldBefore(ask, run.past, cursor, wanted);
@@ -172,8 +141,8 @@ export class Inspect {
       if (space === "disk") return reasons.ask({ kind: "disk", drive, at });
       if (space === "core") return reasons.ask({ kind: "core", drive: 0, at });
       const line = `translate ${cursor} ${space} ${at.toString(8)}`;
-      const real = physicalOf((await this.asker()([line]))[0]);
-      if (real === null || real >= run.past.core) throw new PlaceError("that is no word of core");
+      const real = physicalOf((await this.app.asker("inspect")([line]))[0]);
+      if (real === null || real >= run.past.core) throw new AskError("that is no word of core");
       return reasons.ask({ kind: "core", drive: 0, at: real });
     });
   }
@@ -181,14 +150,14 @@ export class Inspect {
   /** @param {import("./cursor.js").Ask} ask @param {Held} held */
   async instructions(ask, { stretch, words }) {
     const { space, at } = stretch, step = stepOf(space), { symbols } = this.app.session;
-    const ofMode = space === "user" ? symbols.user : symbols.kernel;
+    const mode = space === "user" ? "user" : "kernel";
     const asked = words.map((_, number) => ({ pc: at + number * 2 & 0o177777,
       words: words.slice(number, number + WORDS_OF_AN_INSTRUCTION) }));
     const texts = await this.app.panels.texts(ask, asked), rows = [];
     for (let number = 0; number < texts.length; number += texts[number].words) {
       const place = at + number * step;
-      const symbol = space === "disk" ? "" : symbolNear(ofMode, place & 0o177777);
-      rows.push([placeInWords(space, place), texts[number].text, visibleName(symbol)]);
+      const symbol = space === "disk" ? "" : symbolAt(symbols, mode, place & 0o177777);
+      rows.push([placeInWords(space, place), texts[number].text, symbol]);
     }
     return rows;
   }
@@ -204,7 +173,7 @@ export class Inspect {
       /** @param {string} it */
       const isWord = it => /^[0-7]{1,6}$/.test(it) && parseInt(it, 8) <= 0o177777;
       if (!isWord(word) || mask && !isWord(mask)) {
-        throw new PlaceError("a word, and the bits that are compared, are octal, up to 177777");
+        throw new AskError("a word, and the bits that are compared, are octal, up to 177777");
       }
       const { session: { run, symbols }, view: { timeline: { cursor } } } = this.app;
       const isDisk = choice("inspect-space").value === "disk", space = isDisk ? "disk" : "core";
@@ -212,7 +181,7 @@ export class Inspect {
       const { drive } = isDisk ? placeNamed("disk", where, symbols) : { drive: 0 };
       const line = lineOfFind({ space, drive }, run.past, cursor,
         from ?? 0, parseInt(word, 8), mask ? parseInt(mask, 8) : null);
-      const reply = line ? (await this.asker()([line]))[0] : "find 0";
+      const reply = line ? (await this.app.asker("inspect")([line]))[0] : "find 0";
       this.showFound(space, drive, placesOf(reply));
     });
   }

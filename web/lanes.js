@@ -218,7 +218,7 @@ class Frame {
       @param {Lane} lane */
   drawNearest(lane) {
     const { brush } = this, { pen, view } = brush;
-    pen.fillStyle = brush.colourOf("bad");
+    pen.fillStyle = brush.colours.bad;
     brush.clipped(lane, () => {
       for (const { event, turn } of this.drawing.matters ?? []) {
         const [x, end] = [event.turn, turn].map(it => view.x(it)).sort((a, b) => a - b);

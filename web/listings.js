@@ -2,11 +2,10 @@
 // PC, and how often each instruction ran, as explore's `covered` counts it.
 
 import { markTurn, stateOf } from "./cursor.js";
-import { FormError, Inquiry } from "./inquiry.js";
+import { Inquiry } from "./inquiry.js";
 import { countOf, listedLines, stretchesOf } from "./listing.js";
 import { choice, element, field, link, make } from "./page.js";
-import { counted, octal, registersOf, visibleName } from "./replies.js";
-import { Priority } from "./run.js";
+import { AskError, counted, octal, registersOf, visibleName } from "./replies.js";
 import { modesOfSymbols } from "./symbols.js";
 
 const MOST_LINES = 6_000;
@@ -113,9 +112,9 @@ export class Listings extends Inquiry {
     if (!this.texts.size) return;
     markTurn(place, this.shown, state);
     if (!app.dock.isSeen("machine")) return;
-    const token = app.token("listed line");
+    const ask = app.asker("listed line");
     app.attempt(async () => {
-      const reply = await run.askOne(`regs ${cursor}`, Priority.QUESTION, token);
+      const [reply] = await ask([`regs ${cursor}`]);
       this.mark(registersOf(reply));
       this.shown = state;
       markTurn(place, state, state);
@@ -142,7 +141,7 @@ export class Listings extends Inquiry {
   async work(facts) {
     const { cursor: end } = this.app.view.timeline, { mode, name } = this.chosen, { lines } = this;
     this.showRows();
-    if (!end) throw new FormError("No turn comes before turn 0.");
+    if (!end) throw new AskError("No turn comes before turn 0");
     /** @type {Map<number, number>} */
     const counts = new Map();
     for (const { first, count } of stretchesOf(lines)) {

@@ -1,16 +1,16 @@
 // The panel of what was lost, as explore's `lost` tells it: keys that weren't read, and runs of an
 // instruction that have left nothing on the disk.
 
+import { accountOf } from "./accounts.js";
 import { isCore, isOfDrive, isRegister } from "./cells.js";
-import { FormError, Inquiry, numberIn, turnLink } from "./inquiry.js";
+import { Inquiry } from "./inquiry.js";
 import { Labels } from "./labels.js";
-import { choice, element, field, link, make, table } from "./page.js";
+import { choice, element, field, make, table } from "./page.js";
 import { eventInWords, eventsIn } from "./past.js";
-import { counted, octal, someAre, turnOf } from "./replies.js";
+import { AskError, MODES, counted, octal, someAre, turnOf } from "./replies.js";
 import { fateOf } from "./struck.js";
 
 const [MOST_RUNS, MOST_LINES] = [4_096, 60];
-const MODES = ["kernel", "mode 01", "mode 10", "user"];
 const RESULTS = new Set(["value", "copy"]);
 
 /**
@@ -52,7 +52,7 @@ class Runs {
       return 0n;
     }
     if (this.turns.length === MOST_RUNS) {
-      throw new FormError(`There are more than ${MOST_RUNS} runs; name fewer turns.`);
+      throw new AskError(`There are more than ${MOST_RUNS} runs; name fewer turns`);
     }
     this.turns.push(turn);
     return 1n << BigInt(this.turns.length - 1);
@@ -93,10 +93,7 @@ export class Lost extends Inquiry {
 
   /** @param {Facts} facts */
   async work(facts) {
-    const { end } = this.app.session;
-    const first = numberIn("lost-from", "A turn", 0);
-    const last = numberIn("lost-to", "A turn", Math.max(end, first + 1));
-    if (last < first) throw new FormError("Give two turns, the first one first.");
+    const [first, last] = this.turns(0, this.app.session.end);
     if (this.what.value === "keys") await this.keys(facts, first, last);
     else await this.runs(facts, first, last);
   }
@@ -105,7 +102,7 @@ export class Lost extends Inquiry {
 
   /** @param {Facts} facts @param {number} first @param {number} end */
   async keys(facts, first, end) {
-    if (first === end) throw new FormError("Give two turns, the first one first.");
+    if (first === end) throw new AskError("Give two turns, the first one first");
     const { script } = facts.past;
     const keys = eventsIn(script, first, end - 1).filter(it => it.text.startsWith("key "));
     /** @type {StruckKey[]} */
@@ -152,9 +149,8 @@ export class Lost extends Inquiry {
     const { app } = this;
     const said = { read: `read by ${act}`, dropped: `lost: dropped by ${act}`, waits: "waits still",
       overwritten: by ? `lost: event ${by.number}, ${eventInWords(by)}, takes its place` : "" };
-    const open = () => app.edits.openEvent(event);
-    return [link(String(event.number), "Open the event", open), turnLink(app, event.turn),
-      eventInWords(event), turnLink(app, turn), turn - event.turn, said[fate]];
+    return [app.edits.linkTo(event), app.linkTo(event.turn), eventInWords(event), app.linkTo(turn),
+      turn - event.turn, said[fate]];
   }
 
   // Runs
@@ -182,7 +178,7 @@ export class Lost extends Inquiry {
     const named = symbols[mode === "user" ? "user" : "kernel"].find(it => it.name === name);
     if (named) return named.value;
     if (/^[0-7]{1,6}$/.test(name) && parseInt(name, 8) <= 0o177777) return parseInt(name, 8);
-    throw new FormError("No symbol has this name, and an address is octal, up to 177777.");
+    throw new AskError("No symbol has this name, and an address is octal, up to 177777");
   }
 
   /** @param {Facts} facts @param {Runs} runs @param {string} mode @param {string} where */
@@ -190,10 +186,10 @@ export class Lost extends Inquiry {
     const kept = runs.kept(), gone = kept.filter(it => !it.isInCore), { turns } = runs;
     const shown = kept.slice(0, MOST_LINES);
     const texts = await this.app.panels.turnsInWords(facts.ask, shown.map(it => it.turn));
-    this.showLines(shown.map(({ turn, isInCore }, at) => {
+    this.found.append(accountOf(this.app, shown.map(({ turn, isInCore }, at) => {
       const left = isInCore ? "in core or a register, not on the disk" : "nothing of it is left";
       return { turn, text: `turn ${turn}: ${texts[at]}: ${left}` };
-    }), "Runs");
+    }), "Runs"));
     const more = kept.length - shown.length;
     if (more > 0) this.found.append(make("p", {}, `.. ${counted(more, "run")} more`));
     /** @type {[number, string][]} */

@@ -7,12 +7,12 @@ import {
   ALL_CODES, REGISTER_NAMES, REST, TPB, cellOf, nameOfCell, registerCells, wordCells,
 } from "./cells.js";
 import { Facts } from "./facts.js";
-import { FindError } from "./find.js";
 import { nameOfWord } from "./names.js";
 import { OriginSteps } from "./origin-steps.js";
 import { Kind, Origins, eventsOfGraph, eventsWithData, isWhole, isWrite } from "./origins.js";
 import { pointerOf } from "./operands.js";
-import { bytesOf, counted, octal, turnOf, wordsOf } from "./replies.js";
+import { questionOf } from "./questions.js";
+import { AskError, bytesOf, counted, octal, turnOf, wordsOf } from "./replies.js";
 import { NotFollowed } from "./space.js";
 
 const MOST_ENDS = 6;
@@ -133,9 +133,9 @@ export class MadeOf {
   async beginWord(facts, word) {
     const { turn, past } = this, cell = cellOf(word);
     if (word.drive && past.version === 1) {
-      throw new FindError(`${nameOfWord(word)}: there is one drive`);
+      throw new AskError(`${nameOfWord(word)}: there is one drive`);
     }
-    const [value] = wordsOf(await facts.one(facts.lineOfWord(turn, word)));
+    const [value] = wordsOf(await facts.one(questionOf(past, word, turn)));
     const name = nameOfCell(cell, past.version === 2);
     return {
       turn, roots: wordCells(cell).map(it => ({ name, cell: it, before: turn })),
@@ -164,7 +164,7 @@ export class MadeOf {
       @param {Facts} facts @param {number} number */
   async beginByte(facts, number) {
     const { end } = this, [byte] = bytesOf(await facts.one(`text ${end} from ${number}`));
-    if (byte === undefined) throw new FindError(`byte ${number} isn't printed before turn ${end}`);
+    if (byte === undefined) throw new AskError(`byte ${number} isn't printed before turn ${end}`);
     const printed = turnOf(await facts.one(`when ${number}`)) ?? 0, name = inQuotes(byte);
     return {
       turn: printed + 1, roots: [{ name: `text ${name}`, cell: TPB, before: printed }],
@@ -199,7 +199,7 @@ export class MadeOf {
     if (found.length === COUNTED_CHANGES || !gone.length) return [];
     const shown = gone.slice(0, MOST_CHANGES);
     const replies = await facts.ask(
-      shown.flatMap(it => [it, it + 1].map(turn => facts.lineOfWord(turn, word))));
+      shown.flatMap(it => [it, it + 1].map(turn => questionOf(this.past, word, turn))));
     const told = shown.map((it, at) => changeInWords(it, replies.slice(2 * at, 2 * at + 2)));
     const more = gone.length > shown.length ? " .." : "";
     return [`changes of ${nameOfCell(cell, this.past.version === 2)} that left nothing in it: `

@@ -1,11 +1,11 @@
 // Begins: the page's parts are bound to what they do, and the session in the page is opened.
 
 import { App } from "./app.js";
-import { takeDrops } from "./files.js";
+import { takeChosen, takeDrops } from "./files.js";
 import { forgetSession } from "./kept.js";
 import { List } from "./lists.js";
 import { keepLook } from "./look.js";
-import { choice, element, field } from "./page.js";
+import { choice, element, field, onSubmit } from "./page.js";
 import { LAST_TURN } from "./replies.js";
 import { listLanes } from "./signs.js";
 
@@ -22,25 +22,18 @@ function onClick(id, act) {
 /** The field's form does this with its value, which is trimmed.
     @param {string} id @param {string} name @param {(value: string) => void} act */
 function onForm(id, name, act) {
-  element(id).addEventListener("submit", event => {
-    event.preventDefault();
-    act(field(name).value.trim());
-  });
+  onSubmit(id, () => act(field(name).value.trim()));
 }
 
 /** @param {App} app */
 function bindFiles(app) {
   const chooser = field("files");
   onClick("open", () => chooser.click());
-  chooser.addEventListener("change", () => {
-    const files = [...chooser.files ?? []];
-    chooser.value = "";
-    if (files.length) app.opening.openFiles(files);
-  });
+  takeChosen(chooser, files => app.opening.openFiles(files));
   onClick("own", () => app.opening.openOwn());
   onClick("save", () => app.opening.saveSession());
   onClick("save-page", () => app.opening.savePage());
-  takeDrops(document.body, (/** @type {File[]} */ files) => app.opening.openFiles(files));
+  takeDrops(document.body, files => app.opening.openFiles(files));
 }
 
 /** @param {App} app */
@@ -82,8 +75,6 @@ function bindEdits(app) {
   onClick("redo", () => app.edits.redo());
   bindUndoKeys();
   onClick("stop", () => app.stop());
-  onForm("sweep-form", "sweep-question", () => app.attempt(() => app.sweep.begin()));
-  onClick("sweep-stop", () => app.sweep.end());
 }
 
 /** The legend opens by `?`, where no text is typed, and closes by Escape; `m` goes to where a note
@@ -123,7 +114,15 @@ function bindUndoKeys() {
   });
 }
 
+/** Lines and numbers are typed into fields: the browser has nothing to say of them. */
+function quietFields() {
+  for (const it of document.querySelectorAll("input:not(#note-text)")) {
+    Object.assign(it, { autocomplete: "off", autocapitalize: "off", spellcheck: false });
+  }
+}
+
 function begin() {
+  quietFields();
   const app = new App();
   bindFiles(app);
   bindTurns(app);

@@ -2,16 +2,15 @@
 // explore does. Moves are tried on machines of their own.
 
 import { MARK_ROWS } from "./clusters.js";
-import { FormError, Inquiry, numberIn, turnLink } from "./inquiry.js";
-import { List } from "./lists.js";
+import { Inquiry, numberIn } from "./inquiry.js";
 import { MattersTable, isReply } from "./matters-table.js";
 import { Machine, Stopped } from "./machine.js";
 import { Moves, Results, WAYS, inOneLine } from "./moves.js";
 import { choice, element, field, keepChildren, link, make, part, table } from "./page.js";
 import { eventInWords, eventLabel } from "./past.js";
-import { questionOf } from "./picture.js";
-import { isQuestionOfTurn, turnsAsked } from "./questions.js";
-import { counted, mustBeTaken, someAre } from "./replies.js";
+import { Pins } from "./pins.js";
+import { isQuestionOfTurn, questionOf, turnsAsked } from "./questions.js";
+import { AskError, counted, mustBeTaken, someAre } from "./replies.js";
 
 const USUAL_MOST = 1_024;
 const [MOST_ROWS, MOST_MARKS, MOST_MACHINES] = [200, 100, 3];
@@ -22,8 +21,8 @@ const TIME_OF_TABLE = 700;
 const SIGNS = { dropped: "\u00d7", earlier: "\u25c2", later: "\u25b8" };
 
 /**
- * The nearest move of an event in one way that changes the answer, and the turn where it puts it.
- * @typedef {{event: ScriptEvent, way: import("./moves.js").Way, turn: number, said: string}} Near
+ * The nearest move of an event in one way that changes the answer, at the turn where it puts it.
+ * @typedef {import("./pins.js").Pin & {event: ScriptEvent}} Near
  * @typedef {import("./past.js").ScriptEvent} ScriptEvent
  */
 
@@ -35,20 +34,13 @@ export class MattersPanel extends Inquiry {
     this.machines = [];
     /** @type {Near[]} what is marked on the timeline */
     this.near = [];
-    this.marks = element("nearest");
-    this.list = new List(this.marks);
+    this.pins = new Pins(app, "nearest");
     this.body = make("tbody");
     this.more = make("p");
     /** When the table was shown last. */
     this.drawn = 0;
     element("matters-stop").addEventListener("click", () => this.endMachines());
     field("matters-question").addEventListener("focus", () => this.offer());
-    // the timeline would take the pointer
-    this.marks.addEventListener("pointerdown", event => event.stopPropagation());
-    this.marks.addEventListener("click", ({ target }) => {
-      const turn = target instanceof HTMLElement ? target.dataset.turn : undefined;
-      if (turn) app.goTo(Number(turn));
-    });
   }
 
   sessionBegins() {
@@ -98,11 +90,11 @@ export class MattersPanel extends Inquiry {
     const sought = field("matters-until").value.trim();
     const most = numberIn("matters-most", "How many turns", USUAL_MOST, 1);
     if (!isQuestionOfTurn(question)) {
-      throw new FormError("Ask a question that names its turn, such as text 1000 or regs 1000.");
+      throw new AskError("Ask a question that names its turn, such as text 1000 or regs 1000");
     }
     const reply = inOneLine(await facts.one(question)), [, end] = turnsAsked(question);
     if (sought && isReply(sought, reply)) {
-      throw new FormError(`The reply is that without a move: ${reply}.`);
+      throw new AskError(`The reply is that without a move: ${reply}`);
     }
     /** @param {string} it */
     const isSought = it => sought ? isReply(sought, it) : it !== reply;
@@ -112,12 +104,12 @@ export class MattersPanel extends Inquiry {
 
   /** The events that are named, or all that can matter.
       @param {import("./past.js").Past} past @param {Moves} moves @returns {ScriptEvent[]} */
-  events({ script, events }, moves) {
+  events(past, moves) {
     const names = new Set(field("matters-events").value.split(/[ ,]+/).filter(Boolean));
-    if (!names.size) return script.filter(it => moves.canMatter(it));
+    if (!names.size) return past.script.filter(it => moves.canMatter(it));
     return [...names].map(name => {
-      const event = /^\d+$/.test(name) ? events.get(Number(name)) : undefined;
-      if (!event) throw new FormError(`No event has the number ${name}.`);
+      const event = past.eventNamed(name);
+      if (!event) throw new AskError(`No event has the number ${name}`);
       return event;
     });
   }
@@ -218,12 +210,12 @@ export class MattersPanel extends Inquiry {
   /** @param {MattersTable} shown @param {ScriptEvent} event */
   row(shown, event) {
     const { app } = this;
-    const number = link(String(event.number), "Open the event", () => app.edits.openEvent(event));
     const cells = WAYS.map(way => {
       const text = shown.cell(event, way), edit = shown.edit(event, way);
       return edit ? link(text, `Make this edit: ${edit}`, () => app.edits.edit(edit)) : text;
     });
-    const inside = [number, turnLink(app, event.turn), eventInWords(event), ...cells];
+    const inside = [app.edits.linkTo(event), app.linkTo(event.turn), eventInWords(event),
+      ...cells];
     return make("tr", {}, ...inside.map(it => make("td", {}, it)));
   }
 
@@ -233,34 +225,25 @@ export class MattersPanel extends Inquiry {
       @param {MattersTable | null} shown */
   mark(shown) {
     const { timeline } = this.app.view;
-    this.near = shown ? shown.events().flatMap(event => WAYS.flatMap(way => {
+    const near = shown ? shown.events().flatMap(event => WAYS.flatMap(way => {
       const { change } = shown.results.of(event, way);
       const shift = change ? way === "earlier" ? -change.shift : change.shift : 0;
       const said = `event ${event.number}, ${eventInWords(event)}, ${way}`;
-      return change ? [{ event, way, turn: event.turn + shift,
+      const label = eventLabel(event), sign = SIGNS[way];
+      return change ? [{ event, turn: event.turn + shift, kind: "near",
+        text: way === "later" ? label + sign : sign + label,
         said: `${said} ${shown.cell(event, way)}` }] : [];
     })) : [];
+    this.near = near.sort((a, b) => a.turn - b.turn);
     timeline.matters = this.near.length ? this.near : null;
     timeline.draw();
   }
 
   /** Puts a mark at each such turn in sight, as far as they aren't too many. */
   draw() {
-    const { timeline } = this.app.view, { view, lanes } = timeline;
+    const { lanes, marks } = this.app.view.timeline, ends = new Array(MARK_ROWS).fill(-Infinity);
     const lane = lanes.find(it => it.kind === "matters");
-    this.marks.style.top = `${(lane?.top ?? 0) + 2}px`;
-    const seen = this.near.filter(({ turn }) => turn >= view.first && turn <= view.end);
-    const marked = lane && seen.length <= MOST_MARKS ? seen : [];
-    const ends = new Array(MARK_ROWS).fill(-Infinity);
-    const marks = [...marked].sort((a, b) => a.turn - b.turn).map(({ event, way, turn, said }) => {
-      const label = eventLabel(event), sign = SIGNS[way];
-      const mark = make("button", { type: "button", class: "near", title: said,
-        "aria-label": said, "data-turn": turn }, way === "later" ? label + sign : sign + label);
-      mark.style.left = `${view.x(turn)}px`;
-      timeline.marks.putIntoRow(mark, ends);
-      return mark;
-    });
-    this.list.settle(marks);
-    keepChildren(this.marks, marks);
+    this.pins.place.style.top = `${(lane?.top ?? 0) + 2}px`;
+    this.pins.show(lane ? this.near : [], MOST_MARKS, it => marks.putIntoRow(it, ends));
   }
 }

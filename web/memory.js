@@ -2,7 +2,8 @@
 // machine, and how it is shown. The program maps addresses, not the page.
 
 import { CYLINDERS, SECTORS, SECTOR_WORDS, SURFACES } from "./hardware.js";
-import { WORDS_AT_ONCE, octal, shownByte, unreadOf, wordsOf } from "./replies.js";
+import { onDrive, questionOf } from "./questions.js";
+import { AskError, WORDS_AT_ONCE, octal, shownByte, unreadOf, wordsOf } from "./replies.js";
 
 const WORDS_OF_A_DRIVE = CYLINDERS * SURFACES * SECTORS * SECTOR_WORDS;
 const END_OF_ADDRESSES = 0o200000;
@@ -26,9 +27,6 @@ export const IN_A_ROW = { octal: 4, bytes: 4, text: 16 };
  * @typedef {{space: string, drive: number}} Where
  */
 
-/** Why a place is none, for the user to read. */
-export class PlaceError extends Error {}
-
 /** How much the place of the next word is larger.
     @param {string} space */
 export const stepOf = space => space === "disk" ? 1 : 2;
@@ -50,7 +48,7 @@ function wordOfDrive(text) {
   const [, drive = "0", sector, word] =
     /^(?:([0-7]) +)?(?:sector +(\d{1,5})|([0-7]{1,7}))$/.exec(text) ?? [];
   if (sector === undefined && word === undefined) {
-    throw new PlaceError("a place on a drive is a word in octal, or a sector such as sector 12");
+    throw new AskError("a place on a drive is a word in octal, or a sector such as sector 12");
   }
   const at = sector === undefined ? parseInt(word, 8) : Number(sector) * SECTOR_WORDS;
   return { drive: Number(drive), at };
@@ -64,7 +62,7 @@ export function placeNamed(space, text, symbols) {
   const isNumber = /^[0-7]{1,6}$/.test(text);
   const ofMode = space === "user" ? symbols.user : symbols.kernel;
   const at = isNumber ? parseInt(text, 8) : symbolNamed(ofMode, text);
-  if (at === null) throw new PlaceError("an address is octal, and no symbol has this name");
+  if (at === null) throw new AskError("an address is octal, and no symbol has this name");
   return { drive: 0, at: at & ~1, isVirtual: !isNumber && space === "core" };
 }
 
@@ -87,10 +85,10 @@ export function clipped(stretch, past) {
 /** @param {Where} where @param {Past} past @param {number} turn @param {number} at
     @param {number} count */
 function lineOf({ space, drive }, past, turn, at, count) {
-  const place = at.toString(8);
-  if (space === "core") return `mem ${turn} ${place} ${count}`;
-  if (space !== "disk") return `virtual ${turn} ${space} ${place} ${count}`;
-  return `dsk ${turn} ${past.version === 2 ? `${drive} ` : ""}${place} ${count}`;
+  if (space === "core" || space === "disk") {
+    return questionOf(past, { kind: space, drive, at }, turn, count);
+  }
+  return `virtual ${turn} ${space} ${at.toString(8)} ${count}`;
 }
 
 /** The words of a stretch before a turn. `ask` gives the replies to lines.
@@ -141,17 +139,17 @@ export function rowsOf({ stretch, words }, each) {
 export function lineOfFind({ space, drive }, past, turn, from, word, mask) {
   const isDisk = space === "disk", end = endOf({ space, drive }, past) - stepOf(space);
   if (from > end) return null;
-  const where = [from, end].map(it => it.toString(8)).join(" ");
+  const first = isDisk ? onDrive(past, { drive, at: from }) : from.toString(8);
   const masked = mask === null ? "" : ` mask ${octal(mask)}`;
-  const named = isDisk && past.version === 2 ? `${drive} ` : "";
-  return `${isDisk ? "finddsk" : "find"} ${turn} ${named}${where} ${octal(word)}${masked}`;
+  const where = `${turn} ${first} ${end.toString(8)}`;
+  return `${isDisk ? "finddsk" : "find"} ${where} ${octal(word)}${masked}`;
 }
 
 /** The places of a reply of `find` or `finddsk`, and whether there are more.
     @param {string} reply */
 export function placesOf(reply) {
   const [head, ...lines] = reply.split("\n");
-  if (!/^find(dsk)? \d+/.test(head)) throw new PlaceError(`it can't be read: ${head.slice(0, 40)}`);
+  if (!/^find(dsk)? \d+/.test(head)) throw new AskError(`it can't be read: ${head.slice(0, 40)}`);
   return { places: lines.map(it => parseInt(it, 8)),
     hasMore: head.endsWith("or more") };
 }

@@ -1,10 +1,10 @@
 // The whole run in a strip below the lanes: its events, what was looked at, and what is in sight,
 // which the pointer and keys move.
 
+import { Brush } from "./brush.js";
 import { LAST_TURN } from "./replies.js";
 
 const HEIGHT = 26;
-const COLOURS = ["grid", "faint", "counter", "key", "accent", "bad", "ghost"];
 // Looks at this many stretches of turns are kept.
 const MOST_STRETCHES = 500;
 
@@ -37,8 +37,6 @@ export class Minimap {
     this.pen = /** @type {CanvasRenderingContext2D} */ (this.canvas.getContext("2d"));
     /** @type {Stretch[]} */
     this.stretches = [];
-    /** @type {Object<string, string>} by their names */
-    this.colours = {};
     place.addEventListener("pointerdown", event => {
       place.setPointerCapture(event.pointerId);
       this.goTo(event);
@@ -90,18 +88,11 @@ export class Minimap {
   }
 
   draw() {
-    const { canvas, place, timeline } = this, { view, width, whole, past } = timeline;
-    const ratio = window.devicePixelRatio || 1, { pen } = this;
-    canvas.width = Math.round(width * ratio);
-    canvas.height = Math.round(HEIGHT * ratio);
-    canvas.style.height = `${HEIGHT}px`;
-    pen.setTransform(ratio, 0, 0, ratio, 0, 0);
-    const style = getComputedStyle(canvas);
-    this.colours = Object.fromEntries(
-      COLOURS.map(it => [it, style.getPropertyValue(`--${it}`).trim()]));
-    this.drawStretches(pen);
-    this.drawEvents(pen, past.script);
-    this.drawSight(pen);
+    const { canvas, pen, place, timeline } = this, { view, width, whole, past } = timeline;
+    const brush = new Brush(canvas, pen, { view, width, height: HEIGHT });
+    this.drawStretches(brush);
+    this.drawEvents(brush, past.script);
+    this.drawSight(brush);
     const first = Math.max(0, Math.floor(view.first));
     const end = Math.min(LAST_TURN, Math.ceil(view.end));
     place.setAttribute("aria-valuemax", String(Math.max(whole, first)));
@@ -109,22 +100,21 @@ export class Minimap {
     place.setAttribute("aria-valuetext", `turns ${first} to ${end} of ${whole}`);
   }
 
-  /** @param {CanvasRenderingContext2D} pen */
-  drawStretches(pen) {
-    const { view } = this.timeline;
-    pen.fillStyle = this.colours.grid;
+  /** @param {Brush} brush */
+  drawStretches({ pen, colours, view }) {
+    pen.fillStyle = colours.grid;
     pen.fillRect(view.left, 12, view.width, 2);
     for (const { first, end, isWhole } of this.stretches) {
       pen.globalAlpha = isWhole ? 0.7 : 0.25;
-      pen.fillStyle = this.colours.counter;
+      pen.fillStyle = colours.counter;
       pen.fillRect(this.x(first), 9, Math.max(1, this.x(end) - this.x(first)), 8);
     }
     pen.globalAlpha = 1;
   }
 
-  /** @param {CanvasRenderingContext2D} pen @param {{turn: number}[]} script */
-  drawEvents(pen, script) {
-    pen.fillStyle = this.colours.key;
+  /** @param {Brush} brush @param {{turn: number}[]} script */
+  drawEvents({ pen, colours }, script) {
+    pen.fillStyle = colours.key;
     let free = 0;
     for (const { turn } of script) {
       const x = this.x(turn);
@@ -134,17 +124,15 @@ export class Minimap {
     }
   }
 
-  /** @param {CanvasRenderingContext2D} pen */
-  drawSight(pen) {
-    const { view, cursor } = this.timeline;
+  /** @param {Brush} brush */
+  drawSight(brush) {
+    const { pen, colours, view } = brush, { cursor } = this.timeline;
     const left = this.x(Math.max(0, view.first)), right = Math.max(left + 3, this.x(view.end));
-    pen.strokeStyle = this.colours.accent;
+    pen.strokeStyle = colours.accent;
     pen.lineWidth = 2;
     pen.strokeRect(left, 3, right - left, 20);
-    pen.fillStyle = this.colours.bad;
+    pen.fillStyle = colours.bad;
     pen.fillRect(this.x(cursor) - 0.5, 3, 1, 20);
-    pen.fillStyle = this.colours.faint;
-    pen.font = "11px ui-monospace, Menlo, Consolas, monospace";
-    pen.fillText("whole run", 6, 17, view.left - 10);
+    brush.text(6, 17, "whole run", "faint", view.left - 10);
   }
 }

@@ -1,6 +1,7 @@
 // An event that is dropped, or moved by some turns, and the nearest move that changes the reply to
 // a question. The rules are those of src/nezdrab/analysis/moves.py, the work of `matters`.
 
+import { firstOf } from "./questions.js";
 import { LAST_TURN, mustBeTaken } from "./replies.js";
 
 // Moves that are tried in one task.
@@ -119,12 +120,11 @@ export class Moves {
       [found = null] = await this.changed(ask, task, [shift]);
       if (!found) same = shift;
     }
-    while (found && found.shift - same > 1) {
-      const middle = Math.floor((same + found.shift) / 2);
-      const [nearer] = await this.changed(ask, task, [middle]);
-      if (nearer) found = nearer;
-      else same = middle;
-    }
+    if (found) await firstOf(same, found.shift, async shift => {
+      const [nearer] = await this.changed(ask, task, [shift]);
+      found = nearer ?? found;
+      return nearer !== undefined;
+    });
     return found;
   }
 

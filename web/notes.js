@@ -3,8 +3,8 @@
 // list.
 
 import { sumOf } from "./kept.js";
-import { List } from "./lists.js";
-import { element, field, keepChildren, link, make } from "./page.js";
+import { element, field, make, onSubmit } from "./page.js";
+import { Pins } from "./pins.js";
 import { LAST_TURN, visibleName } from "./replies.js";
 import { readableLine } from "./session.js";
 
@@ -55,18 +55,8 @@ export class Notes {
     this.begun = [];
     /** The sum of the past as it is now. */
     this.sum = "";
-    this.place = element("pins");
-    this.list = new List(this.place);
-    // the timeline would take the pointer
-    this.place.addEventListener("pointerdown", event => event.stopPropagation());
-    this.place.addEventListener("click", ({ target }) => {
-      const turn = target instanceof HTMLElement ? target.dataset.turn : undefined;
-      if (turn) app.goTo(Number(turn));
-    });
-    element("note-form").addEventListener("submit", event => {
-      event.preventDefault();
-      this.add(field("note-text").value.trim());
-    });
+    this.pins = new Pins(app, "pins");
+    onSubmit("note-form", () => this.add(field("note-text").value.trim()));
   }
 
   sessionBegins() {
@@ -155,7 +145,7 @@ export class Notes {
   /** @param {Note} note */
   linkTo(note) {
     const text = this.textOf(note);
-    const found = link(text, `Go to turn ${note.turn}`, () => this.app.goTo(note.turn));
+    const found = this.app.linkTo(note.turn, text);
     // what happened in the story may have the same text
     found.setAttribute("aria-label", `Turn ${note.turn}: ${text}`);
     return found;
@@ -180,17 +170,9 @@ export class Notes {
 
   /** Puts a pin at each note in sight. */
   draw() {
-    const { view } = this.app.view.timeline;
-    const seen = this.notes.filter(({ turn }) => turn >= view.first && turn <= view.end);
-    const pins = seen.map(it => {
-      const said = `Note at turn ${it.turn}: ${this.textOf(it)}`;
-      const pin = make("button", { type: "button", class: "pin link", title: said,
-        "aria-label": said, "data-turn": it.turn }, "\u2691");
-      pin.classList.toggle("old", !this.isOf(it));
-      pin.style.left = `${view.x(it.turn)}px`;
-      return pin;
-    });
-    this.list.settle(pins);
-    keepChildren(this.place, pins);
+    this.pins.show(this.notes.map(it => ({
+      turn: it.turn, text: "\u2691", said: `Note at turn ${it.turn}: ${this.textOf(it)}`,
+      kind: this.isOf(it) ? "pin link" : "pin link old",
+    })));
   }
 }

@@ -88,6 +88,15 @@ export function keepChildren(place, made) {
   }
 }
 
+/** Does something once a form is sent.
+    @param {string} id @param {() => void} act */
+export function onSubmit(id, act) {
+  element(id).addEventListener("submit", event => {
+    event.preventDefault();
+    act();
+  });
+}
+
 /** A button that looks like a link.
     @param {string} text @param {string} title @param {() => void} onclick */
 export const link = (text, title, onclick) =>

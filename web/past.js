@@ -50,6 +50,10 @@ export const linesThatTell = line =>
     @param {string} line */
 export const isStep = line => STEPS.has(wordOfLine(line));
 
+/** Whether a line changes nothing, and is no comment.
+    @param {string} line */
+export const isQuestion = line => wordOfLine(line) !== "" && !isEdit(line) && !isStep(line);
+
 /** Whether a line runs no turns, whatever the past is.
     @param {string} line */
 export const runsNothing = line => isEdit(line) || isStep(line) || PAST_LINES.includes(line);
@@ -102,6 +106,12 @@ export class Past {
     this.events = new Map();
     /** @type {ScriptEvent[]} all events, in the order in which they happen */
     this.script = [];
+  }
+
+  /** The event with this number, if there is one.
+      @param {string} number */
+  eventNamed(number) {
+    return /^\d+$/.test(number) ? this.events.get(Number(number)) : undefined;
   }
 
   /** The past of which these lines of PAST_LINES have these replies; the rest of it is as here.

@@ -28,7 +28,7 @@ export class NamedPasts {
     this.app = app;
     this.choice = choice("compared-with");
     this.choice.addEventListener("change", () => this.choose());
-    this.differences = new Differences(element("difference"), turn => app.goTo(turn));
+    this.differences = new Differences(element("difference"), app);
     /** @type {NamedPast[]} the first is the session as it was opened */
     this.kept = [];
     /** @type {(() => Promise<void>) | null} what is left to be compared */

@@ -1,6 +1,7 @@
 // What the timeline draws, asked of the machine for the pixels that are there.
 
 import { nameOfWord } from "./names.js";
+import { onDrive, questionOf } from "./questions.js";
 import { Priority } from "./run.js";
 import {
   DEVICE_VECTORS, TURNS_OF_A_TRAIL, bytesOf, devicesOf, functionInWords, interruptsOf, isRefused,
@@ -51,14 +52,6 @@ const MOST_SEARCHED_TURNS = 20_000_000;
  * The turns between which the disk begins to be busy, or ends.
  * @typedef {{low: number, high: number, isBusy: boolean}} Edge
  */
-
-/** The question for a word before a turn.
-    @param {Past} past @param {WatchedWord} word @param {number} turn */
-export function questionOf(past, word, turn) {
-  if (word.kind === "core") return `mem ${turn} ${word.at.toString(8)} 1`;
-  const drive = past.version === 2 ? `${word.drive} ` : "";
-  return `dsk ${turn} ${drive}${word.at.toString(8)} 1`;
-}
 
 /** Why the machine has no such word, as a part of a sentence; an empty text if it has it.
     @param {Run} run @param {WatchedWord} word @param {Token | null} token */
@@ -341,8 +334,7 @@ export class PictureMaker {
     const isWhole = this.step === 1 || delay >= this.step || end - first <= MOST_SEARCHED_TURNS;
     if (!isWhole) return this.samplesOf(word, at);
     const values = [{ turn: first, word: looks[0].words[at], writer: "" }];
-    const place = this.past.version === 2 ? `${word.drive} ${word.at.toString(8)}`
-      : word.at.toString(8);
+    const place = onDrive(this.past, word);
     for (let begin = first; values.length <= MOST_CHANGES;) {
       const turn = turnOf(await this.one(`change ${begin} ${end} ${place}`));
       if (turn === null) return { name: nameOfWord(word), values, isWhole: true };

@@ -41,6 +41,29 @@ export function turnsAsked(line) {
   return end < begin ? [0, 0] : [begin ?? 0, end ?? begin ?? 0];
 }
 
+/** A word of a drive as lines name it: in version 2 with its drive.
+    @param {import("./past.js").Past} past @param {{drive: number, at: number}} word */
+export const onDrive = (past, { drive, at }) =>
+  `${past.version === 2 ? `${drive} ` : ""}${at.toString(8)}`;
+
+/** The line that asks for a word before a turn, or for some from it on.
+    @param {import("./past.js").Past} past @param {import("./names.js").WatchedWord} word
+    @param {number} turn */
+export const questionOf = (past, word, turn, count = 1) => word.kind === "core"
+  ? `mem ${turn} ${word.at.toString(8)} ${count}` : `dsk ${turn} ${onDrive(past, word)} ${count}`;
+
+/** The first number after `low`, up to `high`, of which something is so that is so of `high`: it is
+    so of all after that.
+    @param {number} low @param {number} high @param {(number: number) => Promise<boolean>} isSo */
+export async function firstOf(low, high, isSo) {
+  while (high - low > 1) {
+    const middle = Math.floor((low + high) / 2);
+    if (await isSo(middle)) high = middle;
+    else low = middle;
+  }
+  return high;
+}
+
 /** Whether a line is a question that names its turn, or its turns.
     @param {string} line */
 export function isQuestionOfTurn(line) {

@@ -3,16 +3,12 @@
 
 import { MadeQuestion } from "./accounts.js";
 import { markTurn, stateOf } from "./cursor.js";
-import { FindError } from "./find.js";
 import { madeNamed } from "./made.js";
-import { element, field, make } from "./page.js";
-import { mustBeTaken } from "./replies.js";
-import { Priority } from "./run.js";
+import { element, field, make, onSubmit } from "./page.js";
 
 /**
  * What is shown of a question, and the turn before which it is.
  * @typedef {{turn: number, inside: HTMLElement[], path: import("./path.js").PathStep[]}} Answer
- * @typedef {import("./cursor.js").Ask} Ask
  * @typedef {import("./run.js").Run} Run
  */
 
@@ -25,10 +21,7 @@ export class Reasons {
     this.turn = 0;
     /** @type {import("./cursor.js").Shown | undefined} */
     this.shown = undefined;
-    element("why-form").addEventListener("submit", event => {
-      event.preventDefault();
-      this.askNamed(field("why-word").value.trim());
-    });
+    onSubmit("why-form", () => this.askNamed(field("why-word").value.trim()));
     element("why-none").addEventListener("click", () => this.forget());
     element("why-matters").addEventListener("click", () =>
       this.question && app.matters.ask(this.question.line(this.turn)));
@@ -65,11 +58,7 @@ export class Reasons {
   /** Does work, and says what is wrong with what was asked.
       @param {() => Promise<void>} work */
   attempt(work) {
-    return this.app.attempt(work, error => {
-      const isKnown = error instanceof FindError || error.reply !== undefined;
-      if (isKnown) element("reasons").replaceChildren(`${error.message}.`);
-      return isKnown;
-    });
+    return this.app.answer(work, why => element("reasons").replaceChildren(why));
   }
 
   sessionBegins() {
@@ -104,13 +93,13 @@ export class Reasons {
   /** Shows the answer to a question before a turn, at first that of the cursor.
       @param {MadeQuestion} question */
   async show(question, turn = this.app.view.timeline.cursor) {
-    const { app } = this, { run, old } = question, token = app.token("why");
+    const { app } = this, { run, old } = question, ask = app.asker("why", run);
     this.question = question;
     this.turn = turn;
     field("why-word").value = question.name;
     this.mark(run);
     element("reasons").replaceChildren(make("p", { class: "faint at-work" }, "Looking back .."));
-    const answer = await question.answer(asker(run, token), turn);
+    const answer = await question.answer(ask, turn);
     this.turn = answer.turn;
     this.shown = { ...stateOf(run, answer.turn), more: old ? `, ${app.pasts.inWords()}` : "" };
     element("reasons").replaceChildren(...answer.inside);
@@ -125,8 +114,3 @@ export class Reasons {
     markTurn(element("why-turn"), this.shown, stateOf(run, this.turn));
   }
 }
-
-/** What asks a machine, and refuses a refusal.
-    @param {Run} run @param {import("./tasks.js").Token} token @returns {Ask} */
-const asker = (run, token) =>
-  async lines => (await run.ask(lines, Priority.QUESTION, token)).map(mustBeTaken);

@@ -8,7 +8,8 @@ export const WORDS_AT_ONCE = 256;
 export const TURNS_OF_A_TRAIL = 64;
 
 const BYTES_OF_A_UNIT = 0o20000;
-const MODES = ["kernel", "mode 01", "mode 10", "user"];
+/** The modes, by the bits of PS. */
+export const MODES = ["kernel", "mode 01", "mode 10", "user"];
 const VECTORS = new Map([
   ...INTERRUPTS, [0o4, "bus error"], [0o10, "reserved"], [0o14, "trace"], [0o20, "IOT"],
   [0o30, "EMT"], [0o34, "TRAP"], [0o250, "page fault"],
@@ -61,8 +62,11 @@ export function refusalInWords(reply) {
   return REFUSALS.get(Number(number)) ?? reply;
 }
 
+/** What is wrong with what the user asked, as a part of a sentence. */
+export class AskError extends Error {}
+
 /** A reply that isn't what was asked for. */
-export class WrongReply extends Error {
+export class WrongReply extends AskError {
   /** @param {string} reply */
   constructor(reply) {
     super(isRefused(reply) ? `${refusalInWords(reply)} (${reply})`

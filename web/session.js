@@ -1,6 +1,7 @@
 // A session as the page holds it: options, files, lines and symbols; how it is read and stored.
 
 import { turnsAsked } from "./questions.js";
+import { visibleName } from "./replies.js";
 
 /**
  * Lines have a character for each byte. Files are images, a tape, and symbols.
@@ -65,6 +66,11 @@ export function symbolNear(symbols, address) {
 export function symbolsOfMode(symbols, mode) {
   return (mode === "kernel" ? symbols.kernel : mode === "user" ? symbols.user : null) ?? [];
 }
+
+/** The symbol of a mode near an address, with what can't be seen written out.
+    @param {Partial<Symbols>} symbols @param {string} mode @param {number} address */
+export const symbolAt = (symbols, mode, address) =>
+  visibleName(symbolNear(symbolsOfMode(symbols, mode), address));
 
 /** What a file that was opened is, by its name: an image, a program for core, symbols, options; or
     a session, if the name doesn't say it.

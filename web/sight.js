@@ -1,6 +1,6 @@
 // What the timeline shows in sight, as a table: made of the picture that is drawn.
 
-import { delayed, link, make, part, table } from "./page.js";
+import { delayed, make, part, table } from "./page.js";
 import { eventInWords } from "./past.js";
 import { counted, octal, readableText, vectorName } from "./replies.js";
 
@@ -132,8 +132,7 @@ export class Sight {
     const all = JSON.stringify([said, shown]);
     if (all === this.said) return;
     this.said = all;
-    const rows = shown.map(({ turn, lane, what }) => [
-      link(String(turn), "Go to this turn", () => app.goTo(turn)), lane, what]);
+    const rows = shown.map(({ turn, lane, what }) => [app.linkTo(turn), lane, what]);
     this.body.replaceChildren(make("p", {}, said),
       table("What is in sight", ["turn", "lane", ""], rows));
   }

@@ -4,6 +4,7 @@
 
 import { IO_PAGE, coreWord } from "./cells.js";
 import { KERNEL, SPACES, USER } from "./facts.js";
+import { questionOf } from "./questions.js";
 import { octal, wordsOf } from "./replies.js";
 import { copiedBy, hasWritten } from "./transfers.js";
 
@@ -105,7 +106,7 @@ export class Space {
     const { transfer, turn, facts } = this;
     const source = transfer && copiedBy(transfer, coreWord(address));
     if (source) {
-      this.known.set(address, wordsOf(await facts.one(facts.lineOfWord(turn, source)))[0]);
+      this.known.set(address, wordsOf(await facts.one(questionOf(facts.past, source, turn)))[0]);
       return;
     }
     if (address >= this.top) {

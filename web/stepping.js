@@ -4,8 +4,7 @@
 import { Facts } from "./facts.js";
 import { Stacks } from "./levels.js";
 import { element } from "./page.js";
-import { mustBeTaken, octal, turnOf, turnsOf } from "./replies.js";
-import { Priority } from "./run.js";
+import { octal, turnOf, turnsOf } from "./replies.js";
 
 /**
  * The cursor's turn, the last turn that is searched, and what asks lines; the turn to which a step
@@ -24,12 +23,10 @@ export class Stepping {
   /** Does a step, which returns the turn to which it goes, and what is said of it.
       @param {(turns: Turns) => Promise<Step>} work */
   step(work) {
-    const { app } = this, token = app.token("find");
+    const { app } = this, ask = app.asker("find");
     const { cursor } = app.view.timeline;
     return app.attempt(async () => {
-      const { run, end } = app.session;
-      /** @type {Ask} */
-      const ask = lines => run.ask(lines, Priority.QUESTION, token);
+      const { end } = app.session;
       const { turn, said } = await work({ ask, cursor, end: Math.max(end, cursor + 1) });
       if (turn !== null) app.goTo(turn);
       element("step-said").textContent = said;
@@ -51,7 +48,7 @@ export class Stepping {
     return this.step(async ({ ask, cursor, end }) => {
       const line = direction > 0 ? `first ${cursor + 1} ${end} ${where}`
         : `latest 0 ${cursor} ${where}`;
-      const turn = turnOf((await ask([line])).map(mustBeTaken)[0]);
+      const turn = turnOf((await ask([line]))[0]);
       const none = direction > 0 ? `up to turn ${end}` : "before";
       return { turn, said: turn === null ? `PC isn't ${octal(pc)} ${none}.` : "" };
     });
@@ -67,9 +64,7 @@ export class Stepping {
   /** What finds calls and returns.
       @param {Ask} ask */
   stacks(ask) {
-    /** @type {Ask} */
-    const taken = async lines => (await ask(lines)).map(mustBeTaken);
-    return new Stacks(new Facts(taken, this.app.session.run.past));
+    return new Stacks(new Facts(ask, this.app.session.run.past));
   }
 
   /** One turn on; from a call to where its routine has been left.

@@ -1,7 +1,7 @@
 // The story of a session, which it tells in comments `# story ..`: a title and steps to take, an
 // event to be moved, what comes of that by a question and its replies, and what to ask after that.
 
-import { element, link, make } from "./page.js";
+import { element, make } from "./page.js";
 import { madeNamed } from "./made.js";
 import { wordNamed } from "./names.js";
 import { turnsAsked } from "./questions.js";
@@ -244,8 +244,7 @@ export class StoryPanel {
     element("happened").hidden = !shown.length;
     element("happened-title").textContent = own.length ? "What happened" : "In another past";
     element("steps").replaceChildren(...shown.slice(0, MOST_STEPS).map(({ turn, text }) =>
-      make("li", {}, link(text, `Go to turn ${turn}`, () => this.app.goTo(turn)),
-        make("small", {}, ` turn ${turn}`))));
+      make("li", {}, this.app.linkTo(turn, text), make("small", {}, ` turn ${turn}`))));
   }
 
   /** Asks what something was made of in the old past. The story's turns are in sight.

@@ -1,6 +1,7 @@
 // What became of keys that were struck: which the program read, and which were lost before. The
 // rules are those of src/nezdrab/core/struck.py.
 
+import { firstOf } from "./questions.js";
 import { devicesOf } from "./replies.js";
 
 /**
@@ -36,13 +37,7 @@ async function firstClear(facts, struck, end) {
   while (look > last && await waits(facts, look)) {
     [last, look] = [look, Math.min(end, 2 * look - struck)];
   }
-  if (look <= last) return null;
-  while (look - last > 1) {
-    const middle = Math.floor((last + look) / 2);
-    if (await waits(facts, middle)) last = middle;
-    else look = middle;
-  }
-  return look;
+  return look > last ? firstOf(last, look, async it => !await waits(facts, it)) : null;
 }
 
 /** Whether a turn reads TKB, also at its odd address.

@@ -1,15 +1,15 @@
 // A sweep: an event is tried in each turn of some, on a machine of its own. Turns with equal
 // outcomes get one letter and one colour.
 
+import { Inquiry, TIME_BETWEEN } from "./inquiry.js";
 import { element, field, link, make, part, table } from "./page.js";
-import { eventInWords, isEdit, wordsOfLine } from "./past.js";
-import { isRefused } from "./replies.js";
+import { eventInWords, isQuestion } from "./past.js";
+import { AskError, isRefused } from "./replies.js";
 import { Priority } from "./run.js";
 
 const MOST_TURNS = 20_000;
 const TURNS_AT_ONCE = 32;
 const MOST_ROWS = 200;
-const TIME_BETWEEN = 250;
 const LETTERS = "ABCDEFGHIJKLMNOPQRSTUVWXYZ";
 export const SWEEP_COLOURS = 6;
 
@@ -57,14 +57,14 @@ export const letterOf = outcome => LETTERS[outcome] ?? `#${outcome + 1}`;
  * @typedef {{place: HTMLElement, turns: HTMLElement, reply: HTMLElement}} Row
  */
 
-export class Sweep {
+export class Sweep extends Inquiry {
   /** @param {import("./app.js").App} app */
   constructor(app) {
-    this.app = app;
+    super(app, "sweep");
     /** @type {Run | null} the machine that tries, if it does */
     this.run = null;
     /** @type {ScriptEvent | null} the event of the sweep, as it was when that began */
-    this.event = null;
+    this.tried = null;
     this.question = "";
     /** @type {Map<number, number>} by the turn, the number of its outcome */
     this.outcomes = new Map();
@@ -72,8 +72,6 @@ export class Sweep {
     this.replies = [];
     /** @type {Map<string, number>} by the outcome, its number */
     this.numbers = new Map();
-    /** When the outcomes were shown last. */
-    this.shown = 0;
     /** @type {string[]} the edits of the past that it is of */
     this.isOf = [];
     // where the outcomes are shown: the table's rows, each by its first turn, and what is left out
@@ -81,12 +79,12 @@ export class Sweep {
     /** @type {Map<number, Row>} */
     this.rows = new Map();
     this.more = make("p");
-    element("sweep-event").addEventListener("input", () => this.showChosen());
+    field("sweep-event").addEventListener("input", () => this.showChosen());
+    element("sweep-stop").addEventListener("click", () => this.end());
   }
 
   /** The form for a session: the event is one of its script. */
   offer() {
-    this.clear();
     const { story, end } = this.app.session;
     const offered = story?.sweep ?? { event: "", from: "", to: "", question: `text ${end}` };
     for (const [name, value] of Object.entries(offered)) {
@@ -95,37 +93,32 @@ export class Sweep {
     this.showChosen();
   }
 
-  clear() {
+  /** @param {string} [text] */
+  forget(text) {
+    super.forget(text);
     this.end();
-    this.event = null;
+    this.tried = null;
     this.app.view.timeline.sweep = null;
-    element("outcomes").replaceChildren();
-    this.say("");
-  }
-
-  /** The event that the form names, if there is one. */
-  chosen() {
-    const name = field("sweep-event").value.trim();
-    return /^\d+$/.test(name) ? this.app.session.run.past.events.get(Number(name)) : undefined;
+    this.app.view.timeline.draw();
   }
 
   showChosen() {
-    const event = this.chosen(), name = field("sweep-event").value.trim();
+    const { named } = this, event = this.app.session.run.past.eventNamed(named);
     element("sweep-chosen").textContent = event ? `${eventInWords(event)} at ${event.turn}`
-      : name && "no event";
+      : named && "no event";
   }
 
   /** Outcomes stay if only the event of the sweep changed. */
   pastChanged() {
     this.showChosen();
-    if (!this.event) return;
+    if (!this.tried) return;
     const { ledger: { lines } } = this.app.session.run, { isOf } = this;
-    const moves = `alter ${this.event.number} `;
+    const moves = `alter ${this.tried.number} `;
     const differs = lines.findIndex((it, at) => it !== isOf[at]);
     const same = differs < 0 ? lines.length : differs;
     const others = [...isOf.slice(same), ...lines.slice(same)];
     if (others.every(it => it.startsWith(moves))) this.isOf = lines;
-    else this.clear();
+    else this.forget();
   }
 
   stopped() {
@@ -137,57 +130,43 @@ export class Sweep {
     this.run = null;
   }
 
-  /** What is wrong in the form, or an empty text.
-      @param {ScriptEvent | undefined} event @param {string[]} turns @param {string} question */
-  complaint(event, turns, question) {
-    const [from, to] = turns.map(Number);
-    if (!event) return "No event has this number.";
-    if (!turns.every(it => /^\d{1,10}$/.test(it)) || to < from) {
-      return "Give two turns, the first one first.";
+  /** What the form says. */
+  asked() {
+    const event = this.event(), [from, to] = this.turns(NaN, NaN);
+    const question = field("sweep-question").value.trim();
+    if (to - from >= MOST_TURNS) throw new AskError(`At most ${MOST_TURNS} turns at once`);
+    if (!isQuestion(question)) {
+      throw new AskError("Ask a question, such as regs 1000: a line that changes nothing");
     }
-    if (to - from >= MOST_TURNS) return `At most ${MOST_TURNS} turns at once.`;
-    const isQuestion = wordsOfLine(question).length && !isEdit(question);
-    return isQuestion ? "" : "Ask a question, such as regs 1000: a line that changes nothing.";
+    return { event, question, turns: ownFirst(spreadTurns(from, to), event) };
   }
 
   /** Tries the event in each turn; what is known is shown as it comes. */
-  async begin() {
-    const { app } = this;
-    const event = this.chosen();
-    const [from, to, question] = ["from", "to", "question"]
-      .map(it => field(`sweep-${it}`).value.trim());
-    const complaint = this.complaint(event, [from, to], question);
-    if (!event || complaint) return this.say(complaint);
-    this.end();
-    const { session } = app, run = session.newRun(), { ledger: { lines } } = session.run;
+  async work() {
+    this.forget();
+    const { event, question, turns } = this.asked(), { session } = this.app;
+    const run = session.newRun(), { ledger: { lines } } = session.run;
     this.run = run;
     this.question = question;
-    this.event = { ...event };
+    this.tried = { ...event };
     this.isOf = lines;
     this.outcomes = new Map();
     this.numbers = new Map();
     this.replies = [];
-    this.shown = 0;
-    const turns = ownFirst(spreadTurns(Number(from), Number(to)), event);
     // at once: what the outcomes take of the page doesn't move the button later
     this.showTable();
     this.show(turns.length);
     await run.takeUp(lines);
     const refusal = await run.refusalOf(question);
-    if (refusal) this.refuse(question, refusal);
+    if (refusal) {
+      this.forget();
+      throw new AskError(`${question}: ${refusal}`);
+    }
     for (let at = 0; at < turns.length && this.run === run; at += TURNS_AT_ONCE) {
       await this.tryTurns(run, event, turns.slice(at, at + TURNS_AT_ONCE));
       this.show(turns.length);
     }
     if (this.run === run) this.end();
-    return undefined;
-  }
-
-  /** @param {string} question @param {string} refusal */
-  refuse(question, refusal) {
-    this.clear();
-    this.say(`${question}: ${refusal}`);
-    this.app.view.timeline.draw();
   }
 
   /** @param {Run} run @param {ScriptEvent} event @param {number[]} turns */
@@ -204,16 +183,11 @@ export class Sweep {
     });
   }
 
-  /** @param {string} text */
-  say(text) {
-    element("sweep-status").textContent = text;
-  }
-
   /** @param {number} all */
   show(all) {
     const known = this.outcomes.size, now = performance.now();
-    if (known && known < all && now - this.shown < TIME_BETWEEN) return;
-    this.shown = now;
+    if (known && known < all && now - this.told < TIME_BETWEEN) return;
+    this.told = now;
     const runs = runsOf(this.outcomes);
     const state = known === all ? "each was tried" : "tried so far; between them isn't known";
     const outcomes = `Outcomes of ${this.question}: ${this.replies.length}.`;
@@ -227,11 +201,10 @@ export class Sweep {
 
   /** A table without rows. */
   showTable() {
-    const outcomes = element("outcomes");
     this.more = make("p");
-    outcomes.replaceChildren(
+    this.found.replaceChildren(
       table("Turns with equal outcomes", ["", "turns", "outcome"], []), this.more);
-    this.body = part(outcomes, "tbody");
+    this.body = part(this.found, "tbody");
     this.rows = new Map();
   }
 
@@ -256,8 +229,8 @@ export class Sweep {
 
   /** @param {Stretch} stretch @returns {Row} */
   row({ from, outcome }) {
-    const { app, event } = this, colour = `outcome outcome-${outcome % SWEEP_COLOURS}`;
-    const put = () => event && app.edits.edit(`alter ${event.number} ${from} ${event.text}`);
+    const { app, tried } = this, colour = `outcome outcome-${outcome % SWEEP_COLOURS}`;
+    const put = () => tried && app.edits.edit(`alter ${tried.number} ${from} ${tried.text}`);
     const turns = link("", "Put the event into the first of these turns", put);
     const reply = make("td"), letter = make("span", { class: colour }, letterOf(outcome));
     const place = make("tr", {}, make("td", {}, letter), make("td", {}, turns), reply);

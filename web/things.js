@@ -1,8 +1,8 @@
 // What is drawn in the lanes, each thing with its turn and in words: for the pointer, and for keys
 // that go from one to the next.
 
-import { symbolNear, symbolsOfMode } from "./session.js";
-import { counted, keyName, octal, vectorName, visibleName } from "./replies.js";
+import { symbolAt } from "./session.js";
+import { counted, keyName, octal, vectorName } from "./replies.js";
 
 // A thing is touched if the pointer is within so many pixels of it.
 const NEAR = 7;
@@ -38,11 +38,10 @@ export function thingsOf(lane, picture, symbols) {
 /** @param {Lane} lane @param {Picture} picture @param {Partial<Symbols>} symbols */
 function looksOf({ mode }, { looks, step }, symbols) {
   const sampled = step > 1 ? `, the first of ${step} turns` : "";
-  const names = symbolsOfMode(symbols, mode ?? "");
   return looks.filter(it => it.mode === mode).map(({ turn, pc, state }) => ({
     ...thing(turn, "", { until: turn + step - 1 }),
     get text() {
-      const symbol = visibleName(symbolNear(names, pc));
+      const symbol = symbolAt(symbols, mode ?? "", pc);
       const how = { wait: ", waits", halted: ", halted" }[state] ?? "";
       return `${mode} PC ${octal(pc)}${symbol ? ` ${symbol}` : ""}${how}${sampled}`;
     },

@@ -2,9 +2,9 @@
 // a key went. Of a write it is asked which instruction made it.
 
 import { thingAt, thingFrom, thingsOf } from "./things.js";
-import { octal, registersOf, turnsOf, visibleName } from "./replies.js";
+import { octal, registersOf, turnsOf } from "./replies.js";
 import { Priority } from "./run.js";
-import { symbolNear, symbolsOfMode } from "./session.js";
+import { symbolAt } from "./session.js";
 import { explained } from "./signs.js";
 
 /**
@@ -125,7 +125,7 @@ export class Tips {
       const [trail, registers] = await app.session.run.ask(lines, Priority.QUESTION, token);
       const [{ pc, act }] = turnsOf(trail), { mode } = registersOf(registers);
       if (act !== "instr") return;
-      const symbol = visibleName(symbolNear(symbolsOfMode(timeline.symbols, mode), pc));
+      const symbol = symbolAt(timeline.symbols, mode, pc);
       const place = `${mode} ${octal(pc)}`;
       found = symbol ? `at ${symbol} (${place})` : `at ${place}`;
     });

@@ -9,7 +9,7 @@ import { isSame, markTurn, stateOf } from "./cursor.js";
 import { Facts } from "./facts.js";
 import { element, link, make, table } from "./page.js";
 import { eventInWords } from "./past.js";
-import { LAST_TURN, counted, lengthOf, mustBeTaken, octal } from "./replies.js";
+import { LAST_TURN, counted, lengthOf, octal } from "./replies.js";
 import { Priority } from "./run.js";
 import { NotFollowed } from "./space.js";
 import { transfersOf } from "./transfers.js";
@@ -74,13 +74,11 @@ export class TurnPanel {
 
   look() {
     const { app } = this, { run } = app.session, { cursor: turn } = app.view.timeline;
-    const wanted = stateOf(run, turn), token = app.token("turn"), place = element("turn-said");
+    const wanted = stateOf(run, turn), ask = app.asker("turn"), place = element("turn-said");
     const mark = () => markTurn(place, this.shown, wanted, "turn");
     mark();
     const isDone = turn === LAST_TURN || isSame(this.shown, wanted);
     if (isDone || !app.dock.isSeen("machine")) return;
-    /** @type {import("./cursor.js").Ask} */
-    const ask = async lines => (await run.ask(lines, Priority.QUESTION, token)).map(mustBeTaken);
     app.attempt(async () => {
       const facts = new Facts(ask, run.past);
       const cycles = await this.cycles(facts, turn), moves = await this.moves(facts, turn);
@@ -123,8 +121,7 @@ export class TurnPanel {
   /** @param {import("./past.js").ScriptEvent | undefined} event @returns {Inside[]} */
   event(event) {
     if (!event) return ["event", "", ""];
-    return ["event", link(eventInWords(event), "Open the event",
-      () => this.app.edits.openEvent(event)), ""];
+    return ["event", this.app.edits.linkTo(event, eventInWords(event)), ""];
   }
 
   /** @param {string[]} fields of `disk` @param {number | null} begin @returns {Inside[]} */
@@ -132,7 +129,7 @@ export class TurnPanel {
     const words = counted(Number(count), "word");
     const text = `${name} of ${words}, drive ${drive} word ${index}, core ${core}`;
     return ["disk", begin === null ? text
-      : link(text, `Go to turn ${begin}, which began it`, () => this.app.goTo(begin)), ""];
+      : this.app.linkTo(begin, text), ""];
   }
 
   /** @param {Facts} facts @param {string} word @param {string} byte @param {number} turn

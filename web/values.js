@@ -4,6 +4,7 @@ import {
   REST, bitOfCode, isCode, isCore, isOfDrive, isRegister, nameOfCell, wordOf,
 } from "./cells.js";
 import { rowOfReply } from "./facts.js";
+import { questionOf } from "./questions.js";
 import { octal, wordsOf } from "./replies.js";
 
 /** The turn that a question names.
@@ -30,7 +31,7 @@ export class Values {
   value(cell, turn) {
     const isWord = isCore(cell) || isOfDrive(cell);
     if (!isWord && !isRegister(cell) && !isCode(cell)) return "";
-    const line = isWord ? this.facts.lineOfWord(turn, wordOf(cell)) : `regs ${turn}`;
+    const line = isWord ? questionOf(this.facts.past, wordOf(cell), turn) : `regs ${turn}`;
     const reply = this.replies.get(line);
     if (reply === undefined) {
       this.unknown.add(line);

@@ -6,6 +6,7 @@ import { showExamples } from "./names.js";
 import { delayed, element, field } from "./page.js";
 import { Path } from "./path.js";
 import { keepPlace } from "./place.js";
+import { firstOf } from "./questions.js";
 import { registersOf } from "./replies.js";
 import { Priority } from "./run.js";
 import { Sight } from "./sight.js";
@@ -112,12 +113,7 @@ export class PageView {
     return app.attempt(async () => {
       if (story?.turns || !await isHalted(end)) return;
       // after the last event it halts for good
-      let [low, high] = [run.past.script.at(-1)?.turn ?? 0, end];
-      while (high - low > 1) {
-        const middle = low + high >> 1;
-        if (await isHalted(middle)) high = middle;
-        else low = middle;
-      }
+      const high = await firstOf(run.past.script.at(-1)?.turn ?? 0, end, isHalted);
       const isThere = view.first === first && view.span === span && high < span * SMALL_PART;
       if (isThere) this.timeline.show(0, Math.max(FEWEST_TURNS, high * 1.1));
     });

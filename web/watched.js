@@ -1,11 +1,12 @@
 // The watch list: registers, and words of core and of drives, which the timeline draws; each with
 // its value before the cursor's turn, in the old past too.
 
-import { REGISTER_NAMES, markTurn, stateOf } from "./cursor.js";
+import { SHOWN_REGISTERS, markTurn, stateOf } from "./cursor.js";
 import { shownOf } from "./kept.js";
 import { nameOfWord, namesOfSession, symbolOfWord, wordNamed } from "./names.js";
 import { element, make, table } from "./page.js";
-import { questionOf, whyNoWord } from "./picture.js";
+import { whyNoWord } from "./picture.js";
+import { questionOf } from "./questions.js";
 import { isRefused, octal, registersOf, wordsOf } from "./replies.js";
 import { Priority } from "./run.js";
 
@@ -200,4 +201,4 @@ export class Watched {
 }
 
 /** @param {string} name */
-const isRegister = name => REGISTER_NAMES.includes(name);
+const isRegister = name => SHOWN_REGISTERS.includes(name);

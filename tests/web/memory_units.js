@@ -2,10 +2,10 @@
 // isn't so.
 
 import {
-  PlaceError, bytesOfWords, clipped, heldBefore, lineOfFind, placeNamed, placesOf, rowsOf,
-  textOfWords,
+  bytesOfWords, clipped, heldBefore, lineOfFind, placeNamed, placesOf, rowsOf, textOfWords,
 } from "/memory.js";
 import { linesBetween, pointsOf } from "/path.js";
+import { AskError } from "/replies.js";
 import { View } from "/lanes.js";
 import { copiedBy, hasWritten, transfersOf } from "/transfers.js";
 
@@ -22,7 +22,7 @@ function named(space, text) {
     const { drive, at, isVirtual } = placeNamed(space, text, SYMBOLS);
     return [drive, at, isVirtual];
   } catch (error) {
-    if (error instanceof PlaceError) return "none";
+    if (error instanceof AskError) return "none";
     throw error;
   }
 }

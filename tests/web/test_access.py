@@ -13,7 +13,7 @@ WIDTHS = (320, 400, 640, 1280)
 MARKS = ("ink", "counter", "cpu", "disk", "interrupt", "key", "ghost", "bad", "accent")
 # What tells the user something later than at the press of a key.
 MESSAGES = (
-    ["reply", "verdict", "find-said", "step-said", "inspect-said", "sweep-status", "sweep-chosen"]
+    ["reply", "verdict", "find-said", "step-said", "inspect-said", "sweep-said", "sweep-chosen"]
     + ["link", "linked", "difference", "reasons", "edits-kept", "session-kept"]
     + ["drives-said"]
 )

@@ -116,7 +116,7 @@ class Tabs(PageCase):
         for name, part in (
             ("edits", "None yet"),
             ("reasons", "Touch a register"),
-            ("outcomes", "Nothing was tried yet"),
+            ("sweep-found", "Nothing was tried yet"),
             ("inspected", "Nothing is shown yet"),
         ):
             self.assertIn(part, self.browser.value(said.format(f"#{name}")), name)

@@ -114,10 +114,10 @@ class TheSweep(PageCase):
     def test_turns_with_equal_outcomes(self) -> None:
         """As `sweep 15 from 126820 to 126840` of explore has them."""
         self.sweep(126_820, 126_840)
-        said = self.wait_text("#sweep-status", "21 of 21 turns: each was tried.")
+        said = self.wait_text("#sweep-said", "21 of 21 turns: each was tried.")
         self.assertIn("Outcomes of dsk 238614 0 1: 2.", said)
         rows = self.browser.value(
-            "[...document.querySelectorAll('#outcomes tbody tr')].map(it =>"
+            "[...document.querySelectorAll('#sweep-found tbody tr')].map(it =>"
             "[...it.cells].map(cell => cell.textContent))"
         )
         turns = [it[1] for it in rows]
@@ -128,10 +128,10 @@ class TheSweep(PageCase):
             turn = row[1].split()[0]
             asked = [f"alter 15 {turn} key 66", "dsk 238614 0 1"]
             self.assertEqual(replies_of([*lines, *asked])[-1], row[2])
-        self.browser.click("#outcomes tbody tr:nth-child(2) .link")
+        self.browser.click("#sweep-found tbody tr:nth-child(2) .link")
         self.browser.wait("document.querySelectorAll('#edits li').length === 1")
         self.assertEqual(self.edits(), ["alter 15 126830 key 66"])
-        self.assertIn("126820", self.browser.text("#outcomes"))
+        self.assertIn("126820", self.browser.text("#sweep-found"))
 
     def test_an_event_is_not_moved_in_its_own_turn(self) -> None:
         """There it comes before the other of its turn: the machine has the second key's byte."""
@@ -141,9 +141,9 @@ class TheSweep(PageCase):
         self.fill("#sweep-event", "1")
         self.fill("#sweep-question", "devices 8")
         self.sweep(4, 6)
-        self.wait_text("#sweep-status", "3 of 3 turns")
+        self.wait_text("#sweep-said", "3 of 3 turns")
         rows = self.browser.value(
-            "[...document.querySelectorAll('#outcomes tbody tr')].map(it => it.innerText)"
+            "[...document.querySelectorAll('#sweep-found tbody tr')].map(it => it.innerText)"
         )
         lines = ["at 5 key 101", "at 5 key 102", "devices 8", "alter 1 6 key 101", "devices 8"]
         *_, unmoved, _, later = replies_of(lines)
@@ -154,40 +154,41 @@ class TheSweep(PageCase):
 
     def test_it_can_be_stopped(self) -> None:
         self.sweep(100_000, 119_000)
-        self.wait_text("#sweep-status", " of 19001 turns: tried so far")
-        self.browser.wait("document.querySelector('#outcomes tbody tr') !== null")
+        self.wait_text("#sweep-said", " of 19001 turns: tried so far")
+        self.browser.wait("document.querySelector('#sweep-found tbody tr') !== null")
         self.browser.click("#sweep-stop")
         self.wait_still()
-        self.assertIn("between them isn't known", self.browser.text("#sweep-status"))
+        self.assertIn("between them isn't known", self.browser.text("#sweep-said"))
 
     def test_a_row_that_stays_is_left_in_place(self) -> None:
         """So a press on it and the release are one click, though outcomes come in between."""
         self.sweep(100_000, 119_000)
-        self.browser.wait("(window.row = document.querySelector('#outcomes .link')) !== null")
-        said = json.dumps(self.browser.text("#sweep-status"))
-        self.browser.wait(f"document.querySelector('#sweep-status').textContent !== {said}")
+        self.browser.wait("(window.row = document.querySelector('#sweep-found .link')) !== null")
+        said = json.dumps(self.browser.text("#sweep-said"))
+        self.browser.wait(f"document.querySelector('#sweep-said').textContent !== {said}")
         self.assertTrue(self.browser.value("window.row.isConnected"))
         self.browser.click("#sweep-stop")
         self.wait_still()
 
     def test_another_edit_takes_the_outcomes_away(self) -> None:
         self.sweep(126_600, 126_603)
-        self.wait_text("#sweep-status", "4 of 4 turns")
+        self.wait_text("#sweep-said", "4 of 4 turns")
         self.type_line("drop 3")
-        self.browser.wait("document.querySelector('#outcomes').textContent === ''")
+        self.browser.wait("document.querySelector('#sweep-found').textContent === ''")
 
     def test_a_wrong_form_is_told(self) -> None:
         self.sweep(126_600, 5)
-        self.wait_text("#sweep-status", "two turns")
+        self.wait_text("#sweep-said", "two turns")
         for line, said in (
             ("drop 3", "Ask a question"),
+            ("undo", "Ask a question"),
             ("", "Ask a question"),
             ("regs 2000000000", "refused 7 TurnTooLarge"),
             ("mem 1000000000 1001 1", "refused 3 OddAddress"),
         ):
             self.fill("#sweep-question", line)
             self.sweep(126_600, 126_603)
-            self.wait_text("#sweep-status", said)
+            self.wait_text("#sweep-said", said)
         self.assertEqual(self.edits(), [])
 
     def test_an_event_that_is_gone_is_no_other(self) -> None:
@@ -195,7 +196,7 @@ class TheSweep(PageCase):
         self.type_line("drop 15")
         self.wait_text("#sweep-chosen", "no event")
         self.sweep(126_600, 126_603)
-        self.wait_text("#sweep-status", "No event has this number")
+        self.wait_text("#sweep-said", "No event has this number")
 
     def test_the_form_is_emptied_with_the_session(self) -> None:
         path = self.folder() / "other.session"
