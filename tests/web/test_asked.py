@@ -188,6 +188,16 @@ class Shown(Asking):
         self.wait_still()
         self.assertRegex(self.parts("follow")[-1], r"turns from \d+ on weren't looked at: stopped")
 
+    def test_an_edit_ends_what_is_under_way(self) -> None:
+        """What was found so far would be of another past, and nothing looks any longer."""
+        self.fill("#follow-event", "15")
+        self.fill("#follow-to", "238000")
+        self.browser.key("Enter")
+        self.wait_text("#follow-said", " of 111033 turns ..")
+        self.type_line("at 5 tick")
+        self.wait_still()
+        self.assertEqual((self.said("follow"), self.parts("follow")), ("", []))
+
 
 class OfTheForth(Asking):
     def test_a_note_that_is_lost(self) -> None:

@@ -151,20 +151,20 @@ class Kept(FilesCase):
         self.browser.wait(f"document.querySelectorAll('#edits > li').length === {wanted}")
 
     def test_edits_outlive_a_reload(self) -> None:
-        """Events that came back have other numbers then."""
+        """An event that came back by an undo has its number again, after the reload too."""
         number = self.type_line("at 5 key 101").split()[-1]
         self.browser.click("#undo")
         self.count(0)
         self.browser.click("#redo")
         self.count(1)
-        again = f"alter {int(number) + 1} 6 key 102"
+        again = f"alter {number} 6 key 102"
         for line in (again, "alter 15 127165 key 66", "disk 0 101"):
             self.type_line(line)
         before = self.type_line("regs 238614")
         self.browser.reload()
         self.assertEqual(self.browser.dialogs, ["beforeunload"])
         self.count(4)
-        self.assertEqual(self.edits()[1], f"alter {number} 6 key 102")
+        self.assertEqual(self.edits()[1], again)
         self.assertEqual(self.type_line("regs 238614"), before)
         for left in (3, 2, 1, 0):
             self.browser.click("#undo")
