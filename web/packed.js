@@ -22,9 +22,33 @@ const bytesOf = base64 => Uint8Array.from(atob(base64), it => it.charCodeAt(0));
 /** @type {any} */
 const { CompressionStream: Deflating, DecompressionStream: Inflating } = globalThis;
 
-/** @param {string} base64 */
-async function inflated(base64) {
-  const stream = new Blob([bytesOf(base64)]).stream().pipeThrough(new Inflating("gzip"));
+// The digits of base 85, as Python has them but for the full stop, which stands for <.
+const DIGITS =
+  "0123456789ABCDEFGHIJKLMNOPQRSTUVWXYZabcdefghijklmnopqrstuvwxyz!#$%&()*+-;.=>?@^_`{|}~";
+const LAST_DIGIT = "~";
+
+/** The bytes of a module's text: each five digits are four bytes, the first digit the highest.
+    @param {string} text */
+function bytesOfDigits(text) {
+  const missing = (5 - (text.length % 5)) % 5;
+  const whole = text + LAST_DIGIT.repeat(missing);
+  const values = new Uint8Array(128);
+  for (const [value, it] of [...DIGITS].entries()) values[it.charCodeAt(0)] = value;
+  const words = new DataView(new ArrayBuffer((whole.length / 5) * 4));
+  let word = 0;
+  for (let at = 0; at < whole.length; at++) {
+    word = word * 85 + values[whole.charCodeAt(at)];
+    if (at % 5 === 4) {
+      words.setUint32(((at - 4) / 5) * 4, word);
+      word = 0;
+    }
+  }
+  return new Uint8Array(words.buffer, 0, words.byteLength - missing);
+}
+
+/** @param {Uint8Array} packed */
+async function inflated(packed) {
+  const stream = new Blob([packed]).stream().pipeThrough(new Inflating("gzip"));
   return new Uint8Array(await new Response(stream).arrayBuffer());
 }
 
@@ -48,7 +72,7 @@ const modules = new Map();
 export function packedModule(program) {
   const known = modules.get(program);
   if (known) return known;
-  const made = inflated(textOf(`${program}.wasm`)).then(it => WebAssembly.compile(it));
+  const made = inflated(bytesOfDigits(textOf(`${program}.wasm`))).then(it => WebAssembly.compile(it));
   modules.set(program, made);
   return made;
 }
@@ -76,7 +100,9 @@ export const sessionOfText = text => withFiles(JSON.parse(text));
 
 /** @param {any} held @returns {Promise<Session>} */
 async function withFiles({ files, ...session }) {
-  const found = Object.entries(files).map(async ([name, it]) => [name, await inflated(it)]);
+  const found = Object.entries(files).map(
+    async ([name, it]) => [name, await inflated(bytesOf(it))]
+  );
   return { ...session, files: Object.fromEntries(await Promise.all(found)) };
 }
 
@@ -97,7 +123,8 @@ let sessions = null;
 
 /** @param {number} at */
 async function openExample(at) {
-  sessions ??= inflated(textOf("sessions")).then(it => JSON.parse(new TextDecoder().decode(it)));
+  sessions ??= inflated(bytesOf(textOf("sessions")))
+    .then(it => JSON.parse(new TextDecoder().decode(it)));
   return withFiles((await sessions)[at]);
 }
 

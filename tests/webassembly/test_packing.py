@@ -3,6 +3,7 @@ import base64
 import gzip
 import json
 import os
+import random
 import re
 import subprocess
 import tempfile
@@ -104,7 +105,12 @@ class Packed(Case):
         self.assertEqual(session["name"], SESSION.name)
         wanted = {"arguments": SESSION.arguments, "lines": SESSION.lines}
         self.assertEqual(session, {"name": SESSION.name, **wanted})
-        self.assertEqual(unpacked_bytes(self.element(text, "search.wasm")), b"\0asm")
+        module = self.element(text, "search.wasm")
+        self.assertEqual(gzip.decompress(base64.b85decode(module.replace(".", "<"))), b"\0asm")
+
+    def test_the_text_of_a_module_has_no_tag(self) -> None:
+        text = bundle.module_text(random.Random(85).randbytes(100_000))
+        self.assertNotIn("<", text)
 
     def test_examples_are_packed_and_a_session_among_them_is_named(self) -> None:
         one, two = SESSION._replace(name="one"), SESSION._replace(name="two")
