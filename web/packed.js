@@ -72,7 +72,8 @@ const modules = new Map();
 export function packedModule(program) {
   const known = modules.get(program);
   if (known) return known;
-  const made = inflated(bytesOfDigits(textOf(`${program}.wasm`))).then(it => WebAssembly.compile(it));
+  const packed = bytesOfDigits(textOf(`${program}.wasm`));
+  const made = inflated(packed).then(it => WebAssembly.compile(it));
   modules.set(program, made);
   return made;
 }
