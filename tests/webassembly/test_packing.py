@@ -105,12 +105,13 @@ class Packed(Case):
         self.assertEqual(session["name"], SESSION.name)
         wanted = {"arguments": SESSION.arguments, "lines": SESSION.lines}
         self.assertEqual(session, {"name": SESSION.name, **wanted})
-        module = self.element(text, "search.wasm")
-        self.assertEqual(gzip.decompress(base64.b85decode(module.replace(".", "<"))), b"\0asm")
+        self.assertEqual(bundle.module_bytes(self.element(text, "search.wasm")), b"\0asm")
 
     def test_the_text_of_a_module_has_no_tag(self) -> None:
-        text = bundle.module_text(random.Random(85).randbytes(100_000))
+        module = random.Random(85).randbytes(100_000)
+        text = bundle.module_text(module)
         self.assertNotIn("<", text)
+        self.assertEqual(bundle.module_bytes(text), module)
 
     def test_examples_are_packed_and_a_session_among_them_is_named(self) -> None:
         one, two = SESSION._replace(name="one"), SESSION._replace(name="two")
@@ -187,6 +188,9 @@ class Packed(Case):
         for text in "%", "AAAA", cut:
             with self.subTest(text), self.assertRaises(ValueError):
                 unpacked_bytes(text)
+        for text in "]", "AAAA", bundle.module_text(b"module")[:-5]:
+            with self.subTest(text), self.assertRaises(ValueError):
+                bundle.module_bytes(text)
 
 
 class ByTool(Case):

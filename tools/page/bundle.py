@@ -11,6 +11,7 @@ import base64
 import gzip
 import hashlib
 import re
+import zlib
 from pathlib import Path
 from typing import Mapping, NamedTuple, Sequence
 
@@ -120,6 +121,14 @@ def module_text(module: bytes) -> str:
     """A WebAssembly module as the text of its element: packed, five characters for four bytes. A
     full stop stands for the digit `<`, so that nothing in the text is a tag."""
     return base64.b85encode(gzip.compress(module, 9, mtime=0)).decode("ascii").replace("<", ".")
+
+
+def module_bytes(text: str) -> bytes:
+    """The module whose element has this text; a ValueError if it can't be read."""
+    try:
+        return gzip.decompress(base64.b85decode(text.replace(".", "<")))
+    except (OSError, EOFError, zlib.error) as error:
+        raise ValueError(f"the module can't be unpacked: {error}") from error
 
 
 def policy(script: str, styles: Sequence[str]) -> str:
