@@ -81,6 +81,15 @@ abbrev pub disk_moved : ℕ → Bool → BusWorld → Option DiskMoves
 disk_moved t done b =
     if done || is_due t b.io_page.disk.operation then completion_moves (disk_world_of b) else None
 
+-- what the beginning of turn t with these events moves
+abbrev pub beginning_told : ℕ → List Event → BusWorld → BeginningMoves
+beginning_told t events b = record {
+  key = (found_in events).key;
+  switches = (found_in events).switches;
+  reader = reader_moved t (found_in events).reader_done b;
+  disk = disk_moved t (found_in events).disk_done b;
+}
+
 -- The origins of a cell, as they are told: of the buffers of the keyboard and of the switches
 abbrev pub event_told : ℕ → Option ℕ → DataCell → List Origin
 event_told t (Some n) c = OfEvent t n ∷ []

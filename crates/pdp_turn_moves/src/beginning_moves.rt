@@ -3,7 +3,8 @@
 ghost use Rattle.std.specs.Prelude.{◌≡◌};
 ghost use Rattle.pdp_made.specs.Cells.{DataCell};
 ghost use Rattle.pdp_made_run.specs.BeginningRows.{made_in_beginning};
-ghost use Rattle.pdp_turn_moves.specs.Beginnings.{disk_moved, origins_told, reader_moved};
+ghost use Rattle.pdp_turn_moves.specs.Beginnings.{beginning_told, disk_moved, origins_told};
+ghost use Rattle.pdp_turn_moves.specs.Beginnings.{reader_moved};
 
 use crate::found_events::FoundEvents;
 use pdp_rk11::DiskMoves;
@@ -36,7 +37,8 @@ impl BeginningMoves {
     /// What the beginning of this turn with these events will move. The bus is the one between the
     /// turn before and this one.
     pub fn of<S: Store, D: Store>(bus: &Bus<S, D>, turn: u32, events: &[Event]) -> BeginningMoves
-        ensures { (c : DataCell) → origins_told turn result c
+        ensures told { result ≡ beginning_told turn events.now bus.now }
+        ensures origins { (c : DataCell) → origins_told turn result c
             ≡ made_in_beginning turn events.now bus.now c }
     {
         let found = FoundEvents::of(events);

@@ -6,6 +6,9 @@ ghost use Rattle.pdp_cpu.specs.Turns.TurnRun.{RunsTurn};
 ghost use Rattle.pdp_made.specs.Cells.{DataCell};
 ghost use Rattle.pdp_made_run.specs.Origins.{still_held};
 ghost use Rattle.pdp_made_run.specs.TurnRows.{made_in_turn};
+ghost use Rattle.pdp_moves.specs.CourseMoves.{sources_of_act};
+ghost use Rattle.pdp_turn_moves.specs.ActMoves.{made_in_act};
+ghost use Rattle.pdp_turn_moves.specs.Beginnings.{beginning_told};
 ghost use Rattle.pdp_turn_moves.specs.TurnOrigins.{origins_of_turn};
 
 use crate::act_moves::act_noting;
@@ -70,7 +73,8 @@ impl TurnMoves {
     }
 
     /// Runs one whole turn, as [`Machine::turn`] does it, its act step by step. Notes what the turn
-    /// moved in place of what was noted before.
+    /// moved in place of what was noted before: of its beginning what [`BeginningMoves::of`] tells,
+    /// and of its act what is made of what.
     pub fn run<S: Store, D: Store>(
         &mut self,
         machine: &mut Machine<S, D>,
@@ -79,6 +83,10 @@ impl TurnMoves {
     )
         requires ready { IsReady machine.old }
         requires limit { machine.old.state.turn < LAST_TURN }
+        ensures beginning { self.new.beginning ≡ beginning_told machine.old.state.turn events.now
+            machine.old.state.world.bus }
+        ensures act { (c : DataCell) → sources_of_act self.new.act.noted c
+            ≡ made_in_act machine.old.state.turn events.now (machine_world machine.old) c }
         ensures made { (c : DataCell) → origins_of_turn machine.old.state.turn self.new c
             ≡ made_in_turn machine.old.state.turn events.now (machine_world machine.old) c }
         ensures runs { RunsTurn events.now machine.old machine.new meter.old meter.new }

@@ -1,0 +1,19 @@
+//! Laws of what a turn moves.
+
+ghost use Rattle.std.specs.Prelude.{◌≡◌, ℕ, List};
+ghost use Rattle.pdp_store.specs.CycleLogs.{KeptCycles};
+ghost use Rattle.pdp_store.specs.FirstTouches.{FirstTouches};
+ghost use Rattle.pdp_unibus.specs.declared.event.Event.{Event as MachineEvent};
+ghost use Rattle.pdp_operand.specs.Phases.World.{World};
+ghost use Rattle.pdp_cpu.specs.Handbook.MachineState.{world_with_first_touches, world_with_log};
+ghost use Rattle.pdp_made.specs.Cells.{DataCell};
+ghost use Rattle.pdp_turn_moves.specs.ActMoves.{made_in_act};
+
+/// A law and no code: what the act of a turn makes of what depends neither on the log that is kept
+/// nor on the first touches.
+pub fn notes_of_accesses_move_nothing()
+    ensures { (t : ℕ) (events : List MachineEvent) (w : World) (log : KeptCycles)
+        (touches : FirstTouches) (c : DataCell)
+        → made_in_act t events (world_with_first_touches (world_with_log w log) touches) c
+        ≡ made_in_act t events w c }
+{}
