@@ -22,6 +22,7 @@ pub mod DiskCompletions
 pub mod Fadings
 pub mod Reads
 pub mod Accesses
+pub mod MovesListed
 pub mod FadedAnswers
 pub mod FadedSearches
 pub mod LoggedCycles

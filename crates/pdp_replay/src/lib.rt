@@ -73,10 +73,10 @@ mod run;
 
 pub use ask::{
     AccessesFound, Bytes, Cause, Comparand, CompletionsFound, CountedWords, DiskCompletion,
-    DiskTurn, FoundWords, Items, LastWrite, MOST_CONDITIONS, Numbers, Quantity, Question,
-    ReadsFound, Relation, Sought, TextKind, Told, Trail, TrailEntry, TurnCondition, TurnConditions,
-    TurnDetail, TurnHead, Unreadable, Value, VirtualWords, WantedWords, WordPattern, WordRead,
-    Words, Written,
+    DiskTurn, FoundWords, Items, LastWrite, MOST_CONDITIONS, MoveDetail, Numbers, Quantity,
+    Question, ReadsFound, Relation, Sought, TextKind, Told, Trail, TrailEntry, TurnCondition,
+    TurnConditions, TurnDetail, TurnHead, Unreadable, Value, VirtualWords, WantedWords,
+    WordPattern, WordRead, Words, Written,
 };
 pub use engine::Engine;
 pub use laws::{

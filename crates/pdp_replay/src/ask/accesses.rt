@@ -34,7 +34,7 @@ use pdp_word::NoMemory;
 use std::alloc::Global;
 
 /// The most cycles that are listed.
-const MOST_CYCLES: usize = 256;
+pub(crate) const MOST_CYCLES: usize = 256;
 
 /// A turn, as it begins [P].
 #[derive(Clone, Copy)]
