@@ -5,3 +5,7 @@ pub mod DiskTold
 pub mod ReaderTold
 pub mod BeginningTold
 pub mod Turns
+pub mod Noted
+pub mod SteadyRows
+pub mod SteadyCourses
+pub mod NotedTurns
