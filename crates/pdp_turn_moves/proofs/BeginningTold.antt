@@ -11,6 +11,7 @@ use Rattle.pdp_made.specs.Cells.{DataCell, DeviceBuffer, Buffer, Keyboard, Reade
 use Rattle.pdp_made_run.specs.BeginningRows.{before_printer, before_reader, made_by_disk, made_by_disk_due, made_by_event, made_by_events, made_by_reader, made_by_reader_due, made_if, made_in_beginning}
 use Rattle.pdp_made_run.specs.Origins.{Held, OfEvent, Origin, back_through, still_held}
 use Rattle.pdp_turn_moves.specs.Beginnings.{any_where, disk_moved, disk_told, ends_function, ends_reading, event_told, is_key, last_where, later_or, origins_told, reader_moved, reader_told, sets_switches}
+use Rattle.pdp_turn_moves.specs.Beginnings as told
 use Rattle.pdp_turn_moves.specs.declared.beginning_moves.BeginningMoves.{BeginningMoves}
 use Rattle.pdp_turn_moves.proofs.DiskTold as disk
 use Rattle.pdp_turn_moves.proofs.DiskTold.{IsPlain, buffer_left, disk_is_told, moved_by, operation_of}
@@ -180,3 +181,9 @@ beginning_told t es b moves key switches read moved (Buffer Switches) = ap (λ l
 beginning_told t es b moves key switches read moved (Buffer Reader) = ap reader_told read ∙ reader_is_told t (any_where ends_reading es) b ∙ sym (reader_made t es b)
 beginning_told t es b moves key switches read moved c =
     ap (λ done. map Held (disk_told done c)) moved ∙ disk_is_told t (any_where ends_function es) b c ∙ sym (plain_made t es b c tt)
+
+-- the moves themselves, part by part
+pub told_of : (t : ℕ) (es : List Event) (b : BusWorld) (moves : BeginningMoves) → moves.key ≡ last_where is_key es → moves.switches ≡ last_where sets_switches es
+    → moves.reader ≡ reader_moved t (any_where ends_reading es) b → moves.disk ≡ disk_moved t (any_where ends_function es) b
+    → moves ≡ told.beginning_told t es b
+told_of t es b moves key switches read moved = λ j. record { key = key j; switches = switches j; reader = read j; disk = moved j }

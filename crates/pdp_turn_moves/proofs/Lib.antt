@@ -1,3 +1,4 @@
+pub mod ActTold
 pub mod Dues
 pub mod Founds
 pub mod Ends

@@ -17,7 +17,7 @@ use Rattle.pdp_made_run.specs.Origins.{still_held}
 use Rattle.pdp_made_run.specs.TurnRows.{made_in_turn, rows_of_due}
 use Rattle.pdp_moves.specs.CourseMoves.{sources_of_act}
 use Rattle.pdp_moves.specs.declared.noted_act.NotedAct.{NotedAct}
-use Rattle.pdp_turn_moves.specs.Beginnings.{origins_told}
+use Rattle.pdp_turn_moves.specs.Beginnings.{beginning_told, origins_told}
 use Rattle.pdp_turn_moves.specs.TurnOrigins.{origins_of_turn}
 use Rattle.pdp_turn_moves.specs.declared.beginning_moves.BeginningMoves.{BeginningMoves}
 
@@ -47,6 +47,11 @@ turn_made m es b t begins noted bus turn begun acted c =
     ∙ ap (λ n. made_in_beginning n es b d) turn ∙ ap (λ w. made_in_beginning m.state.turn es w d) bus in
     ap (λ made. flat_map made (sources_of_act noted c)) (λ i d. told d i)
     ∙ ap (flat_map (made_in_beginning m.state.turn es (machine_world m).bus)) (acted no_saved_codes c)
+
+-- what is told of the beginning is told of the bus without its first touches
+pub begun_told : (m : MachineWithTexts) (es : List Event) (b : BusWorld) (t : ℕ) (begins : BeginningMoves) → b ≡ (machine_world m).bus → t ≡ m.state.turn
+    → begins ≡ beginning_told t es b → begins ≡ beginning_told m.state.turn es m.state.world.bus
+begun_told m es b t begins bus turn told = told ∙ ap (λ n. beginning_told n es b) turn ∙ ap (beginning_told m.state.turn es) bus
 
 abbrev nothing : BeginningMoves
 nothing = record { key = None; switches = None; reader = None; disk = None }

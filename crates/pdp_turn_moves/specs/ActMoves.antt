@@ -17,7 +17,6 @@ use Rattle.pdp_made.specs.Cells.{TapeByte, ValueByte, SourceByte, ResultByte, St
 use Rattle.pdp_made.specs.Cells.{CodeDue, CodeSaved, no_saved_codes}
 use Rattle.pdp_made.specs.CourseRows.{made_along}
 use Rattle.pdp_made_run.specs.TurnRows.{rows_of_turn}
-use Rattle.pdp_moves.specs.CellNames.{named_cell}
 use Rattle.pdp_moves.specs.Moves.{is_cell_among, is_itself}
 use Rattle.pdp_moves.specs.declared.cell_name.BufferName.{BufferName}
 use Rattle.pdp_moves.specs.declared.cell_name.BufferName.TheVariants as buffer
@@ -32,7 +31,8 @@ use Rattle.pdp_turn_moves.specs.declared.act_move.ActMove.TheVariants as act
 
 -- of which cells before its act a turn makes each cell after it
 abbrev pub made_in_act : ℕ → List Event → World → DataCell → List DataCell
-made_in_act t events w c = made_along (rows_of_turn t events w) no_saved_codes (at_turn t events w) c
+made_in_act t events w c =
+    made_along (rows_of_turn t events w) no_saved_codes (at_turn t events w) c
 
 -- whether it is a cell that a step hands to the next, which a plan that comes to a trap loses
 abbrev pub is_handed_on : DataCell → Bool

@@ -1,6 +1,6 @@
 //! Back through an act: which cells before it a cell after it is made of.
 
-ghost use Rattle.std.specs.Prelude.{◌≡◌, ◌++◌, flat_map, not, IfOk, OnOk};
+ghost use Rattle.std.specs.Prelude.{◌≡◌, [], ◌∷◌, ◌++◌, flat_map, IfOk, OnOk};
 ghost use Rattle.pdp_made.specs.CourseRows.{of_saved_codes};
 ghost use Rattle.pdp_moves.specs.CellNames.{named_cell, named_cells, named_moves};
 ghost use Rattle.pdp_moves.specs.CourseMoves.{saved_if, sources_of_act, sources_of_plan};
@@ -25,7 +25,8 @@ fn add_step_sources(
 {
     for one in moves.as_slice() {
         if cell.is_same(one.cell) {
-            return add_cells(sources, one.sources.as_slice());
+            add_cells(sources, one.sources.as_slice())?;
+            return Ok(());
         }
     }
     sources.push(cell)?;
@@ -35,7 +36,7 @@ fn add_step_sources(
 /// Adds these cells.
 ///
 /// Err if memory was refused.
-fn add_cells(sources: &mut Vec<CellName>, cells: &[CellName]) -> Result<(), NoMemory>
+pub(crate) fn add_cells(sources: &mut Vec<CellName>, cells: &[CellName]) -> Result<(), NoMemory>
     ensures { OnOk result (sources.new.items ≡ sources.old.items ++ cells.now) }
 {
     for cell in cells {

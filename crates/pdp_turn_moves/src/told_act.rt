@@ -1,7 +1,6 @@
 //! What an act moved, as a list.
 
 ghost use Rattle.std.specs.Prelude.{◌≡◌, ◌++◌, [], IfOk, OnOk};
-ghost use Rattle.pdp_made.specs.Cells.{DataCell};
 ghost use Rattle.pdp_moves.specs.CellNames.{named_cell, named_cells};
 ghost use Rattle.pdp_moves.specs.CourseMoves.{sources_of_act};
 ghost use Rattle.pdp_moves.specs.Moves.{is_cell_among, is_itself};
@@ -10,7 +9,7 @@ ghost use Rattle.pdp_turn_moves.specs.ActMoves.{cells_written, moves_from, moves
 ghost use Rattle.pdp_turn_moves.specs.ActMoves.{moves_of_cells, with_cells};
 
 use crate::act_move::ActMove;
-use crate::act_sources::sources_of_act;
+use crate::act_sources::{add_cells, sources_of_act};
 use pdp_moves::{BufferName, CellName, CodeName, HalfName, NotedAct};
 use pdp_store::{BusCycle, CycleKind};
 use pdp_word::NoMemory;
@@ -22,19 +21,17 @@ const FIRST_REGISTER: u32 = 0o760000;
 /// How many registers there are that hold data: R0 to R5 and the stack pointers of two modes.
 const REGISTERS: u8 = 8;
 
-const CODES: [CodeName; 4] = [
-    CodeName::Negative,
-    CodeName::Zero,
-    CodeName::Overflow,
-    CodeName::Carry,
-];
-
-const BUFFERS: [BufferName; 5] = [
-    BufferName::Keyboard,
-    BufferName::Printer,
-    BufferName::Reader,
-    BufferName::Punch,
-    BufferName::Switches,
+/// The condition codes and the buffers of the devices.
+const CODES_AND_BUFFERS: [CellName; 9] = [
+    CellName::CodeNow(CodeName::Negative),
+    CellName::CodeNow(CodeName::Zero),
+    CellName::CodeNow(CodeName::Overflow),
+    CellName::CodeNow(CodeName::Carry),
+    CellName::Buffer(BufferName::Keyboard),
+    CellName::Buffer(BufferName::Printer),
+    CellName::Buffer(BufferName::Reader),
+    CellName::Buffer(BufferName::Punch),
+    CellName::Buffer(BufferName::Switches),
 ];
 
 /// Whether the cell is among these.
@@ -84,6 +81,7 @@ fn add_moves(moves: &mut Vec<ActMove>, cell: CellName, sources: &[CellName]) -> 
 {
     if sources.is_empty() {
         moves.push(ActMove::OfNothing(cell))?;
+        return Ok(());
     }
     for source in sources {
         moves.push(ActMove::Of(cell, *source))?;
@@ -182,12 +180,7 @@ fn other_cells(alloc: Global) -> Result<Vec<CellName>, NoMemory>
             half: HalfName::High,
         })?;
     }
-    for code in CODES {
-        cells.push(CellName::CodeNow(code))?;
-    }
-    for buffer in BUFFERS {
-        cells.push(CellName::Buffer(buffer))?;
-    }
+    add_cells(&mut cells, &CODES_AND_BUFFERS)?;
     Ok(cells)
 }
 
