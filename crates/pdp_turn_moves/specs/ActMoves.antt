@@ -126,8 +126,9 @@ cells_outside_core =
     ∷ CodeNow Carry ∷ Buffer Keyboard ∷ Buffer Printer ∷ Buffer Reader ∷ Buffer Punch
     ∷ Buffer Switches ∷ []
 
--- what an act with these cycles moved: to the words of core that it wrote, in their order, and then
--- to all else
+-- what an act with these cycles moved: to the words of core that it wrote, each once and in their
+-- order, and then to all else
 abbrev pub moves_of_act : (DataCell → List DataCell) → List BusCycle → List ActMove
 moves_of_act made cycles =
-    moves_of_cells made (cells_written cycles) ++ moves_of_cells made cells_outside_core
+    moves_of_cells made (with_cells [] (cells_written cycles))
+    ++ moves_of_cells made cells_outside_core

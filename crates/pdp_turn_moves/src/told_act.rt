@@ -184,8 +184,8 @@ fn other_cells(alloc: Global) -> Result<Vec<CellName>, NoMemory>
     Ok(cells)
 }
 
-/// What an act with these bus cycles moved: to the words of core that it wrote, in their order, and
-/// then to the registers, the condition codes and the buffers of the devices.
+/// What an act with these bus cycles moved: to the words of core that it wrote, each once and in
+/// their order, and then to the registers, the condition codes and the buffers of the devices.
 ///
 /// Err if memory was refused.
 pub fn moves_of_act(
@@ -198,7 +198,8 @@ pub fn moves_of_act(
 {
     let mut moves = Vec::new(alloc);
     let written = written_cells(alloc, cycles)?;
-    add_moves_of_cells(alloc, noted, &mut moves, written.as_slice())?;
+    let words = each_once(alloc, written.as_slice())?;
+    add_moves_of_cells(alloc, noted, &mut moves, words.as_slice())?;
     let others = other_cells(alloc)?;
     add_moves_of_cells(alloc, noted, &mut moves, others.as_slice())?;
     Ok(moves)
