@@ -21,6 +21,7 @@ pub mod VirtualReads
 pub mod WordsFound
 pub mod TurnReads
 pub mod TurnAccesses
+pub mod MovesListed
 pub mod FadedAnswers
 pub mod FadedSearches
 pub mod LoggedCourses

@@ -28,7 +28,7 @@ use Rattle.pdp_replay.specs.declared.ask.text_part.TextKind.TheVariants.{Printed
 use Rattle.pdp_replay.proofs.run.LoggedTurns.{events_of, logged_turn, same_with_log}
 
 -- one more of some things, each as a detail, after those that were there
-pub one_more : {A : Type 0} (as_detail : A → TurnDetail) (before : List TurnDetail) (things : List A) (i : ℕ) (d : A) → i < length things
+pub one_more : {A B : Type 0} (as_detail : A → B) (before : List B) (things : List A) (i : ℕ) (d : A) → i < length things
     → (before ++ take i (map as_detail things)) ++ as_detail (get_or things i d) ∷ [] ≡ before ++ take (i + 1) (map as_detail things)
 one_more as_detail before things i d below =
     append_assoc before (take i (map as_detail things)) (as_detail (get_or things i d) ∷ [])

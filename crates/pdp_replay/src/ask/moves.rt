@@ -1,6 +1,6 @@
 //! What some turns made of what.
 
-ghost use Rattle.std.specs.Prelude.{◌≡◌, ◌+◌, ◌-◌, ◌<◌, ◌≤◌, ◌++◌, map, min};
+ghost use Rattle.std.specs.Prelude.{◌≡◌, ◌+◌, ◌-◌, ◌<◌, ◌≤◌, ◌++◌, map, min, option_map};
 ghost use Rattle.std.specs.Prelude.{false, IfOk, IsErr, OnOk};
 ghost use Rattle.pdp_store.specs.CycleLogs.{without_cycles};
 ghost use Rattle.pdp_script.specs.Refusal.{for_memory, question_answer, result_map};
@@ -202,21 +202,54 @@ impl LoggedBranch {
         details.push(MoveDetail::Turn(turn))?;
         list_beginning(details, noted.beginning)?;
         let moves = moves_of_act(alloc, &noted.act.noted, self.machine.cycles())?;
-        list_act(details, moves.as_slice())
+        list_act(details, moves.as_slice())?;
+        Ok(())
     }
+}
+
+/// The detail of a key, if one was struck.
+fn key_detail(key: Option<usize>) -> Option<MoveDetail>
+    ensures { result ≡ option_map moved.Key key }
+{
+    key.map(MoveDetail::Key)
+}
+
+/// The detail of the switches, if they were set.
+fn switches_detail(switches: Option<usize>) -> Option<MoveDetail>
+    ensures { result ≡ option_map moved.Switches switches }
+{
+    switches.map(MoveDetail::Switches)
+}
+
+/// The detail of the reader, if it took a byte.
+fn reader_detail(reader: Option<TapeRead>) -> Option<MoveDetail>
+    ensures { result ≡ option_map moved.Reader reader }
+{
+    reader.map(MoveDetail::Reader)
+}
+
+/// The detail of the disk, if it moved words.
+fn disk_detail(disk: Option<DiskMoves>) -> Option<MoveDetail>
+    ensures { result ≡ option_map moved.Disk disk }
+{
+    disk.map(MoveDetail::Disk)
 }
 
 /// Adds what the beginning of a turn moved.
 ///
 /// Err if memory was refused.
-fn list_beginning(details: &mut Vec<MoveDetail>, beginning: BeginningMoves) -> Result<(), NoMemory>
+fn list_beginning(
+    details: &mut Vec<MoveDetail>,
+    beginning: BeginningMoves,
+) -> Result<(), NoMemory>
     ensures { OnOk result (details.new.items
         ≡ details.old.items ++ beginning_details beginning) }
 {
-    add_if_there(details, beginning.key.map(MoveDetail::Key))?;
-    add_if_there(details, beginning.switches.map(MoveDetail::Switches))?;
-    add_if_there(details, beginning.reader.map(MoveDetail::Reader))?;
-    add_if_there(details, beginning.disk.map(MoveDetail::Disk))
+    add_if_there(details, key_detail(beginning.key))?;
+    add_if_there(details, switches_detail(beginning.switches))?;
+    add_if_there(details, reader_detail(beginning.reader))?;
+    add_if_there(details, disk_detail(beginning.disk))?;
+    Ok(())
 }
 
 /// Adds what an act moved.
