@@ -185,8 +185,8 @@ pub fn joined_runs_stay_joined()
 /// needs no earlier turn. What was printed and punched until then may differ, and from then on both
 /// texts grow by the same bytes; and a write of that turn or of a later one is the last write to a
 /// word in both runs or in neither. Nor does it change what searches find from that turn on, the
-/// lists of accesses and the counts of instructions. Whether an edit fades or not, what can be
-/// asked stays.
+/// lists of accesses and of moves, and the counts of instructions. Whether an edit fades or not,
+/// what can be asked stays.
 ///
 /// [`Engine::fades`]: crate::Engine::fades
 ///

@@ -24,7 +24,8 @@
 //!   whatever is kept. [`Engine::text_from`] returns what was printed or punched before a turn,
 //!   from one of its bytes on. [`Engine::accesses`] lists what some turns have in them, with each
 //!   cycle of the processor on the bus; those in core are the accesses of the turn's trace after
-//!   those of the disk (`logged_cycles_are_traced`). The turns run for them are bounded, also if
+//!   those of the disk (`logged_cycles_are_traced`). [`Engine::moves`] lists what some turns made
+//!   of what, by the rows of pdp_made and pdp_made_run. The turns run for them are bounded, also if
 //!   memory is refused: those of `last_at` are the ones from the turn found on and two strides,
 //!   where they were known.
 //! - **Counts**: [`Engine::counts`] returns for each of some words of virtual addresses how many

@@ -1,5 +1,5 @@
 -- What an edit that fades leaves of what searches find.
-use Rattle.std.proofs.Common.{◌≡◌, ◌∙◌, ◌+◌, ◌-◌, ◌*◌, ◌≤◌, ◌==◌, ◌&&◌, ◌++◌, ℕ, zero, suc, Bool, List, [], ◌∷◌, Option, Some, None, if◌then◌else◌, ap, ap₂, arith, length, nat_le, not, refl, slice_index, subst}
+use Rattle.std.proofs.Common.{◌≡◌, ◌∙◌, ◌+◌, ◌-◌, ◌*◌, ◌≤◌, ◌==◌, ◌&&◌, ◌||◌, ◌++◌, ℕ, zero, suc, Bool, List, [], ◌∷◌, Option, Some, None, if◌then◌else◌, ap, ap₂, arith, length, nat_le, not, refl, slice_index, subst}
 use Rattle.std.specs.Prelude.{bit_and, option_to_list, slice_get}
 use Rattle.pdp_kt11.specs.declared.mode.Mode.{Mode}
 use Rattle.pdp_rk11.specs.declared.rk.Rk.{Rk}
@@ -51,6 +51,19 @@ use Rattle.pdp_replay.specs.declared.ask.turn_condition.Quantity.{Quantity}
 use Rattle.pdp_replay.specs.declared.ask.turn_condition.Quantity.TheVariants as quantity
 use Rattle.pdp_replay.specs.declared.ask.turn_condition.TurnCondition.{TurnCondition}
 use Rattle.pdp_replay.specs.declared.ask.turn_condition.TurnCondition.TheVariants as condition
+use Rattle.pdp_device.specs.Operation.{is_due, is_under_way}
+use Rattle.pdp_rk11.specs.CompletionMoves.{completion_moves, function_moves, moves_unless_refused}
+use Rattle.pdp_rk11.specs.Handbook.Completion.{DiskWorld, refusal}
+use Rattle.pdp_rk11.specs.declared.failure.Failure.{Failure}
+use Rattle.pdp_rk11.specs.declared.function.Function.{Function}
+use Rattle.pdp_rk11.specs.declared.function.Function.TheVariants.{Read, Write}
+use Rattle.pdp_unibus.specs.Handbook.BusWorld.{disk_world_of}
+use Rattle.pdp_made.specs.Cells.{DataCell}
+use Rattle.pdp_turn_moves.proofs.NotedTurns.{act_restamped}
+use Rattle.pdp_turn_moves.specs.ActMoves.{made_in_act, moves_of_act}
+use Rattle.pdp_turn_moves.specs.Beginnings.{beginning_told, found_in}
+use Rattle.pdp_replay.specs.Ask.MovesListed.{move_details, moves_in, moves_in_turns}
+use Rattle.pdp_replay.specs.declared.ask.moves.MoveDetail.{MoveDetail}
 use Rattle.pdp_replay.proofs.ask.FadedAnswers.{meet_there, state_alike}
 use Rattle.pdp_replay.proofs.run.Meetings.{OneMore, turns_meet}
 
@@ -254,6 +267,42 @@ unfolding details_in_turns
 listed_details p q from zero same = refl
 listed_details p q from (suc n) same = ap₂ (λ (xs ys : List TurnDetail). xs ++ ys) (listed_details p q from n same) (same (from + n) (omega arith))
 
+-- what a turn made of what
+function_restamped : (f : Function) (w : DiskWorld) (stamps : List (Option Stamp)) → function_moves f (record w { stamps = stamps }) ≡ function_moves f w
+function_restamped Read w stamps = refl
+function_restamped Write w stamps = refl
+function_restamped f w stamps = refl
+
+unless_restamped : (failure : Option Failure) (w : DiskWorld) (stamps : List (Option Stamp)) → moves_unless_refused failure (record w { stamps = stamps }) ≡ moves_unless_refused failure w
+unless_restamped (Some failure) w stamps = refl
+unless_restamped None w stamps = function_restamped w.rk.function w stamps
+
+completion_restamped : (w : DiskWorld) (stamps : List (Option Stamp)) → completion_moves (record w { stamps = stamps }) ≡ completion_moves w
+unfolding completion_moves
+completion_restamped w stamps =
+    ap (λ moves. if is_under_way w.rk.operation then moves else None) (unless_restamped (refusal w.rk (length w.drives)) w stamps)
+
+begun_restamped : (t : ℕ) (events : List Event) (w : World) (stamps : List (Option Stamp)) → beginning_told t events (world_with_stamps w stamps).bus ≡ beginning_told t events w.bus
+begun_restamped t events w stamps =
+    ap (λ moves. record (beginning_told t events w.bus) { disk = if (found_in events).disk_done || is_due t w.bus.io_page.disk.operation then moves else None })
+    (completion_restamped (disk_world_of w.bus) stamps)
+
+moves_alike : (n : ℕ) (p q : Past) → TurnsAlike n p q → moves_in p n ≡ moves_in q n
+moves_alike n p q both =
+    let es = events_at q.script.entries n in
+    let w = state_at q n in
+    let stamps = both.stamps in
+    let begun = ap₂ (λ events (v : World). beginning_told n events v.bus) both.events both.here ∙ begun_restamped n es w stamps in
+    let acted : (c : DataCell) → made_in_act n (events_at p.script.entries n) (state_at p n) c ≡ made_in_act n es w c =
+    λ c. ap₂ (λ events (v : World). made_in_act n events v c) both.events both.here ∙ act_restamped n es w stamps c in
+    let cycles = cycles_alike n p q both in
+    λ i. move_details n (begun i) (moves_of_act (λ c. acted c i) (cycles i))
+
+listed_moves : (p q : Past) (from n : ℕ) → AlikeFrom from (moves_in p) (moves_in q) → moves_in_turns p from n ≡ moves_in_turns q from n
+unfolding moves_in_turns
+listed_moves p q from zero same = refl
+listed_moves p q from (suc n) same = ap₂ (λ (xs ys : List MoveDetail). xs ++ ys) (listed_moves p q from n same) (same (from + n) (omega arith))
+
 within_alike : (p q : Past) (room from n : ℕ) → AlikeFrom from (cycles_in p) (cycles_in q) → turns_within room p from n ≡ turns_within room q from n
 unfolding turns_within
 within_alike p q room from zero same = refl
@@ -279,6 +328,7 @@ searches_alike p q from n both = record {
   counts = λ mode address count. counts_alike p q mode address count from n (λ x k le. sought_alike x k p q (both k le));
   details = listed_details p q from n (λ k le. details_alike k p q (both k le));
   details_end = λ to. ap (λ k. from + k) (within_alike p q most_cycles from (to - from) (λ k le. cycles_alike k p q (both k le)));
+  moves = listed_moves p q from n (λ k le. moves_alike k p q (both k le));
 }
 
 pub faded_edits_change_no_search : FadedEditsChangeNoSearch

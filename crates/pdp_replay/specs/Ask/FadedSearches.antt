@@ -7,6 +7,7 @@ use Rattle.pdp_replay.specs.Ask.Counts.{counts_in_turns}
 use Rattle.pdp_replay.specs.Ask.DiskChanges.{word_changes}
 use Rattle.pdp_replay.specs.Ask.DiskCompletions.{completions_in_turns}
 use Rattle.pdp_replay.specs.Ask.Fadings.{fading}
+use Rattle.pdp_replay.specs.Ask.MovesListed.{moves_in_turns}
 use Rattle.pdp_replay.specs.Ask.Reads.{reads_in_turns}
 use Rattle.pdp_replay.specs.Ask.Searches.{first_turn_of}
 use Rattle.pdp_replay.specs.Ask.SoughtTurns.{is_sought_at}
@@ -18,8 +19,8 @@ use Rattle.pdp_replay.specs.declared.past.past_edit.PastEdit.{PastEdit}
 
 -- of n turns from this one on both runs have the same first and last turn that is sought, the same
 -- writes and reads of each word of core, the same first change of each word of a drive, the same
--- completions of the disk, the same counts of instructions, and the same details, listed up to the
--- same turn
+-- completions of the disk, the same counts of instructions, the same details, listed up to the same
+-- turn, and the same moves
 pub record SearchesAlike (from n : ℕ) (p q : Past) : Type 0 where
   pub first : (sought : Sought)
       → first_turn_of (is_sought_at p sought) from n ≡ first_turn_of (is_sought_at q sought) from n
@@ -34,6 +35,7 @@ pub record SearchesAlike (from n : ℕ) (p q : Past) : Type 0 where
       → counts_in_turns p mode address count from n ≡ counts_in_turns q mode address count from n
   pub details : details_in_turns p from n ≡ details_in_turns q from n
   pub details_end : (to : ℕ) → accesses_end p from to ≡ accesses_end q from to
+  pub moves : moves_in_turns p from n ≡ moves_in_turns q from n
 
 -- from the turn on that was found, if one was, the edit changes nothing that a search finds
 abbrev pub ChangesNoSearch : PastEdit → Past → Option ℕ → Type 0
