@@ -43,6 +43,7 @@ export const LINES = [
   ["writes N M A", "search", "question", "writes C", "N to M"],
   ["reads N M A", "search", "question", "reads C", "N to M"],
   ["accesses N C", "search", "question", "accesses C", "C before N"],
+  ["moves N C", "search", "question", "moves C", "C before N"],
   ["transfers N M", "search", "question", "transfers C", "N to M"],
   ["change N M I", "search", "question", "change T", "N to M"],
   ["change N M D I", "search", "question", "change T", "N to M"],

@@ -9,6 +9,7 @@ pub mod Reply
 pub mod PastShown
 pub mod Transfers
 pub mod Accesses
+pub mod MoveLines
 -- The languages: the session language, and the search language, which has searches beside it, and
 -- whose edits can be taken back.
 pub mod Search

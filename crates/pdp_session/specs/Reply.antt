@@ -248,9 +248,13 @@ abbrev pub search_name : FoundWhere → List ℕ
 search_name InCore = codes "find"
 search_name OnDrive = codes "finddsk"
 
+-- the address of a word of core by its number
+abbrev pub address_text : ℕ → List ℕ
+address_text word = octal_digits 6 (word * 2)
+
 -- a word that was found, in one line: of core its address, of a drive its number
 abbrev pub found_line : FoundWhere → ℕ → List ℕ
-found_line InCore number = octal_digits 6 (number * 2) ++ codes "\n"
+found_line InCore number = address_text number ++ codes "\n"
 found_line OnDrive number = octal_digits 7 number ++ codes "\n"
 
 -- the words that were found

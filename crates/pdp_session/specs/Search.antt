@@ -12,6 +12,7 @@ use Rattle.pdp_replay.specs.Ask.Counts.{counts_checked, counts_in_turns}
 use Rattle.pdp_replay.specs.Ask.DiskChanges.{change_checked, word_changes}
 use Rattle.pdp_replay.specs.Ask.DiskCompletions.{completions_end, completions_in_turns}
 use Rattle.pdp_replay.specs.Ask.Fadings.{fading_checked, joined_by}
+use Rattle.pdp_replay.specs.Ask.MovesListed.{moves_in_turns}
 use Rattle.pdp_replay.specs.Ask.Reads.{reads_end, reads_in_turns}
 use Rattle.pdp_replay.specs.Ask.Searches.{first_turn_of, search_checked}
 use Rattle.pdp_replay.specs.Ask.SoughtTurns.{is_sought_at, seek_checked}
@@ -32,6 +33,7 @@ use Rattle.pdp_session.specs.declared.search.Finding.TheVariants as found
 use Rattle.pdp_session.specs.declared.search.Search.{Search}
 use Rattle.pdp_session.specs.declared.search.Search.TheVariants as search
 use Rattle.pdp_session.specs.Accesses.{accesses_text}
+use Rattle.pdp_session.specs.MoveLines.{moves_text}
 use Rattle.pdp_session.specs.PastShown.{events_text, setup_line}
 use Rattle.pdp_session.specs.Transfers.{transfers_text}
 use Rattle.pdp_session.specs.Reply.{agent_name, bytes_line, listed_head, refusal_text, value_text}
@@ -73,6 +75,7 @@ finding (search.Writes from to address) past = writes_found (take most_listed
 finding (search.Reads from to address) past = reads_found (take most_listed
     (reads_in_turns past (address / 2) from (to - from))) to
 finding (search.Accesses turn count) past = accesses_found past (turn - count) turn
+finding (search.Moves turn count) past = found.Moves (moves_in_turns past (turn - count) count)
 finding (search.Transfers from to) past = transfers_found (take most_listed
     (completions_in_turns past from (to - from))) to
 finding (search.Change from to drive number) past = found.Change (first_turn_of
@@ -96,6 +99,7 @@ search_permitted (search.Latest from to sought) past = seek_checked sought from 
 search_permitted (search.Writes from to address) past = writes_checked address from to past.setup
 search_permitted (search.Reads from to address) past = writes_checked address from to past.setup
 search_permitted (search.Accesses turn count) past = question_checked (Trail turn count) past
+search_permitted (search.Moves turn count) past = question_checked (Trail turn count) past
 search_permitted (search.Transfers from to) past = search_checked from to
 search_permitted (search.Change from to drive number) past = change_checked drive number from to
     past.setup
@@ -163,6 +167,7 @@ finding_text (found.Latest turn) = turn_line (codes "latest") turn
 finding_text (found.Writes writes more) = writes_text writes more
 finding_text (found.Reads reads more) = reads_text reads more
 finding_text (found.Accesses details more) = accesses_text details more
+finding_text (found.Moves details) = moves_text details
 finding_text (found.Transfers completions more) = transfers_text completions more
 finding_text (found.Change turn) = turn_line (codes "change") turn
 finding_text (found.TextFrom kind bytes) = bytes_line (text_name kind) bytes

@@ -9,6 +9,7 @@ mod bytes;
 mod counts;
 mod findings;
 mod history;
+mod moves;
 mod past_shown;
 mod reads;
 mod states;

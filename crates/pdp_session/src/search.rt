@@ -9,8 +9,8 @@ mod found_list;
 use crate::version::Version;
 pub use found_list::FoundList;
 use pdp_replay::{
-    Bytes, CountedWords, DiskCompletion, Engine, Entry, Fault, LastWrite, PastEdit, Question,
-    SetupNumbers, Sought, TextKind, TurnDetail, Value, WordRead,
+    Bytes, CountedWords, DiskCompletion, Engine, Entry, Fault, LastWrite, MoveDetail, PastEdit,
+    Question, SetupNumbers, Sought, TextKind, TurnDetail, Value, WordRead,
 };
 use std::alloc::Global;
 
@@ -44,6 +44,11 @@ pub enum Search {
     },
     // What the last turns before a turn have in them.
     Accesses {
+        turn: u32,
+        count: u32,
+    },
+    // What the last turns before a turn made of what.
+    Moves {
         turn: u32,
         count: u32,
     },
@@ -99,6 +104,8 @@ pub enum Finding {
     Reads(FoundList<WordRead>, bool),
     // What the first of the turns have in them, and whether turns were left.
     Accesses(FoundList<TurnDetail>, bool),
+    // What all the turns made of what.
+    Moves(FoundList<MoveDetail>),
     // The first completions of the disk, and whether turns were left that may have more.
     Transfers(FoundList<DiskCompletion>, bool),
     Change(Option<u32>),
@@ -139,6 +146,10 @@ impl Search {
                 let found = engine.accesses(alloc, turn, count)?;
                 let more = found.value.reached < turn;
                 Ok(Finding::Accesses(FoundList::new(found.value.details), more))
+            }
+            Search::Moves { turn, count } => {
+                let found = engine.moves(alloc, turn, count)?;
+                Ok(Finding::Moves(FoundList::new(found.value)))
             }
             Search::Transfers { from, to } => {
                 let found = engine.disk_completions(alloc, from, to)?;

@@ -75,6 +75,9 @@ accesses N C\tsearch\tquestion\tturn count\taccesses C\tC before N\t\
     what the C turns before turn N have in them: mode, PC and act of each, its events, what \
     comes out, the function of the disk that is done, and each cycle on the bus; after whole \
     turns with 256 cycles it ends, with 'or more' if turns are left
+moves N C\tsearch\tquestion\tturn count\tmoves C\tC before N\t\
+    what the C turns before turn N make of what: first what events, the reader and the disk move; \
+    then, of each cell that the act makes anew, the cells, as the act began, that it is made of
 transfers N M\tsearch\tquestion\tturn turn\ttransfers C\tN to M\t\
     the functions of the disk that are done: turn, turn begun, function, drive, word, core \
     address, how many words, and RKER; after 256 it ends, with 'or more' if turns are left

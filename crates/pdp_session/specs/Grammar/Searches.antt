@@ -17,7 +17,7 @@ use Rattle.pdp_session.specs.declared.history.Step.TheVariants.{Undo, Redo}
 use Rattle.pdp_session.specs.declared.search.Search.{Search}
 use Rattle.pdp_session.specs.declared.search.Search.TheVariants.{First, Latest, Writes, Change}
 use Rattle.pdp_session.specs.declared.search.Search.TheVariants.{TextFrom, When, Fades, Ask}
-use Rattle.pdp_session.specs.declared.search.Search.TheVariants.{Accesses, Reads, Transfers}
+use Rattle.pdp_session.specs.declared.search.Search.TheVariants.{Accesses, Moves, Reads, Transfers}
 use Rattle.pdp_session.specs.declared.search.Search.TheVariants.{Events, Setup}
 use Rattle.pdp_session.specs.declared.version.Version.{Version}
 use Rattle.pdp_session.specs.Grammar.Arguments.{◌>>=◌, first_of, one_of, two_of, drive_first}
@@ -99,6 +99,14 @@ accesses_form arguments = do
   c ← count_named turns
   Some (Accesses n c)
 
+-- `moves N C`: the same
+abbrev pub moves_form : List (List ℕ) → Option Search
+moves_form arguments = do
+  (turn, turns) ← two_of arguments
+  n ← turn_named turn
+  c ← count_named turns
+  Some (Moves n c)
+
 -- `transfers N M`
 abbrev pub transfers_form : List (List ℕ) → Option Search
 transfers_form arguments = do
@@ -159,6 +167,7 @@ search_with version name arguments =
     else if bytes_eq name (codes "writes") then writes_form arguments
     else if bytes_eq name (codes "reads") then reads_form arguments
     else if bytes_eq name (codes "accesses") then accesses_form arguments
+    else if bytes_eq name (codes "moves") then moves_form arguments
     else if bytes_eq name (codes "transfers") then transfers_form arguments
     else if bytes_eq name (codes "change") then change_form version arguments
     else if bytes_eq name (codes "text") then text_from_form Printed arguments

@@ -6,8 +6,8 @@ ghost use Rattle.std.specs.Prelude.{◌≡◌, Err};
 ghost use Rattle.pdp_session.specs.Grammar.{line_means};
 ghost use Rattle.pdp_session.specs.Grammar.Searches.{accesses_form, alone, change_form};
 ghost use Rattle.pdp_session.specs.Grammar.Searches.{fades_form, first_form};
-ghost use Rattle.pdp_session.specs.Grammar.Searches.{latest_form, part_named, plainly_sought};
-ghost use Rattle.pdp_session.specs.Grammar.Searches.{reads_form};
+ghost use Rattle.pdp_session.specs.Grammar.Searches.{latest_form, moves_form, part_named};
+ghost use Rattle.pdp_session.specs.Grammar.Searches.{plainly_sought, reads_form};
 ghost use Rattle.pdp_session.specs.Grammar.Searches.{search_named, search_with};
 ghost use Rattle.pdp_session.specs.Grammar.Searches.{sought_in_any_mode, sought_in_mode};
 ghost use Rattle.pdp_session.specs.Grammar.Searches.{sought_named, step_with, text_from_form};
@@ -90,6 +90,8 @@ fn read_named(version: Version, name: &[u8], arguments: &[u8]) -> Option<Search>
         read_reads(arguments)
     } else if name == b"accesses".as_slice() {
         read_accesses(arguments)
+    } else if name == b"moves".as_slice() {
+        read_moves(arguments)
     } else if name == b"transfers".as_slice() {
         read_transfers(arguments)
     } else if name == b"change".as_slice() {
@@ -236,6 +238,16 @@ fn read_accesses(arguments: &[u8]) -> Option<Search>
     let turn = read_turn(turn)?;
     let count = read_count(turns)?;
     Some(Search::Accesses { turn, count })
+}
+
+/// `moves N C`
+fn read_moves(arguments: &[u8]) -> Option<Search>
+    ensures { result ≡ moves_form (words_of_line arguments.now) }
+{
+    let (turn, turns) = two_words(arguments)?;
+    let turn = read_turn(turn)?;
+    let count = read_count(turns)?;
+    Some(Search::Moves { turn, count })
 }
 
 /// `transfers N M`

@@ -8,6 +8,7 @@ use super::accesses::send_accesses;
 use super::bytes::send_bytes;
 use super::counts::send_counts;
 use super::history::agent_name;
+use super::moves::send_moves;
 use super::past_shown::{send_events, setup_text};
 use super::reads::send_reads;
 use super::send_value;
@@ -39,6 +40,7 @@ fn send_finding<W: Drain>(finding: &Finding, writer: &mut W) -> Result<(), Faile
         Finding::Writes(writes, more) => send_writes(writes, *more, writer),
         Finding::Reads(reads, more) => send_reads(reads, *more, writer),
         Finding::Accesses(details, more) => send_accesses(details, *more, writer),
+        Finding::Moves(details) => send_moves(details, writer),
         Finding::Transfers(completions, more) => send_transfers(completions, *more, writer),
         Finding::Change(turn) => send(writer, turn_text("change", *turn).as_slice()),
         Finding::TextFrom(kind, bytes) => send_bytes(text_name(*kind), bytes.items(), writer),

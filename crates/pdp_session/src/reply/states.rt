@@ -6,14 +6,11 @@ ghost use Rattle.pdp_session.specs.Inside.Sends.{Sends};
 
 use super::findings::listed_head;
 use super::send_words;
-use super::texts::{Text, add, add_octal7};
+use super::texts::{Text, add, add_address, add_octal7};
 use crate::streams::{Drain, Failed, send};
 use pdp_kt11::Abort;
 use pdp_replay::{Cause, FoundWords, Unreadable, Words};
 use pdp_word::write_octal6;
-
-/// How many words there are whose addresses have six octal digits.
-const ADDRESSED_WORDS: u32 = 0o400000;
 
 /// What words were looked for in.
 #[derive(Clone, Copy)]
@@ -148,14 +145,12 @@ fn send_number<W: Drain>(
 }
 
 /// A word that was found: of core its address, of a drive its number.
-#[tactic(auto, unfolding(pdp_word::specs::Number::octal_digits))]
 fn found_text(place: FoundWhere, number: u32) -> Text
     ensures { result.items ≡ found_line place number }
 {
     let mut text = Text::new();
     match place {
-        // the digits of the address are those of its last 18 bits
-        FoundWhere::InCore => add(&mut text, &write_octal6(number % ADDRESSED_WORDS * 2)),
+        FoundWhere::InCore => add_address(&mut text, number),
         FoundWhere::OnDrive => add_octal7(&mut text, number),
     }
     add(&mut text, b"\n");

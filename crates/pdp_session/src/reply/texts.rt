@@ -2,9 +2,9 @@ ghost use Rattle.std.specs.Prelude.{◌≡◌, ◌+◌, ◌*◌, ◌≤◌, ◌+
 ghost use Rattle.pdp_word.specs.Number.{octal_digits};
 ghost use Rattle.pdp_unibus.specs.Handbook.Shown.{shown_names};
 ghost use Rattle.pdp_session.specs.Reply.{register_text, regs_line, state_name, refusal_text};
-ghost use Rattle.pdp_session.specs.Reply.{count_line, drive_text, patch_line, word_text};
-ghost use Rattle.pdp_session.specs.Reply.{word_texts, named_word_text, named_word_texts};
-ghost use Rattle.pdp_session.specs.Reply.{devices_line, page_words_text, pages_line};
+ghost use Rattle.pdp_session.specs.Reply.{address_text, count_line, drive_text, patch_line};
+ghost use Rattle.pdp_session.specs.Reply.{named_word_text, named_word_texts, word_text};
+ghost use Rattle.pdp_session.specs.Reply.{devices_line, page_words_text, pages_line, word_texts};
 
 use crate::version::Version;
 use arrayvec::ArrayVec;
@@ -20,6 +20,9 @@ pub const LONGEST_TEXT: usize = 272;
 
 /// A line of a reply, with its LF, or a piece of one. It takes no memory.
 pub type Text = ArrayVec<u8, LONGEST_TEXT>;
+
+/// How many words there are whose addresses have six octal digits.
+const ADDRESSED_WORDS: u32 = 0o400000;
 
 /// The last three octal digits of a number: all of those of a byte or of a vector.
 #[tactic(auto, unfolding(pdp_word::specs::Number::octal_digits))]
@@ -143,6 +146,16 @@ pub fn add_octal7(text: &mut Text, number: u32)
 {
     text.push(b'0' + (number / 0o1000000 % 8) as u8);
     add(text, &write_octal6(number));
+}
+
+/// The address of a word of core by its number: the digits are those of its last 18 bits.
+#[tactic(auto, unfolding(pdp_word::specs::Number::octal_digits))]
+pub fn add_address(text: &mut Text, word: u32)
+    requires { length text.old.items + 6 ≤ LONGEST_TEXT }
+    ensures address_text { text.new.items ≡ text.old.items ++ address_text word }
+    ensures length { length text.new.items ≡ length text.old.items + 6 }
+{
+    add(text, &write_octal6(word % ADDRESSED_WORDS * 2));
 }
 
 /// A word in six octal digits, after a space.

@@ -127,7 +127,7 @@ pub fn add_done(text: &mut Text, before: Rk, after: Rk)
 }
 
 /// The name of a function.
-fn function_name(function: Function) -> &'static str
+pub fn function_name(function: Function) -> &'static str
     ensures name { result.now ≡ function_name function }
     ensures length { length result.now ≤ 13 }
 {

@@ -31,6 +31,11 @@ returns-in_err-found-in-Accesses-clause-finding c =
     let (fault, is, same) = err_from_is_err_and c.from_residual-in_err-found-in-Accesses.result c.from_residual-in_err-found-in-Accesses.ensures.1 in
     rw (c.in-Accesses.is, is, same) (search_refused (search.Accesses c.in-Accesses.turn c.in-Accesses.count) c.args.engine.now.past c.in_err-found-in-Accesses.field-0.0 c.in_err-found-in-Accesses.ensures.refusal)
 
+pub returns-in_err-found-in-Moves-clause-finding : goal.returns-in_err-found-in-Moves-clause-finding
+returns-in_err-found-in-Moves-clause-finding c =
+    let (fault, is, same) = err_from_is_err_and c.from_residual-in_err-found-in-Moves.result c.from_residual-in_err-found-in-Moves.ensures.1 in
+    rw (c.in-Moves.is, is, same) (search_refused (search.Moves c.in-Moves.turn c.in-Moves.count) c.args.engine.now.past c.in_err-found-in-Moves.field-0.0 c.in_err-found-in-Moves.ensures.refusal)
+
 pub returns-in_err-found-in-Transfers-clause-finding : goal.returns-in_err-found-in-Transfers-clause-finding
 returns-in_err-found-in-Transfers-clause-finding c =
     let (fault, is, same) = err_from_is_err_and c.from_residual-in_err-found-in-Transfers.result c.from_residual-in_err-found-in-Transfers.ensures.1 in
@@ -99,6 +104,10 @@ returns-in_ok-found-in-Accesses-clause-finding c =
     let turn = c.in-Accesses.turn in
     rw c.in-Accesses.is (search_answered (search.Accesses turn c.in-Accesses.count) c.args.engine.now.past (found.Accesses c.new-in-Accesses.result (nat_lt value.reached turn)) c.in_ok-found-in-Accesses.ensures.refusal
     (first_accesses c.args.engine.now.past c.new-in-Accesses.result value.details.items (turn - c.in-Accesses.count) value.reached turn c.new-in-Accesses.ensures c.in_ok-found-in-Accesses.ensures.value c.in_ok-found-in-Accesses.ensures.reached))
+
+pub returns-in_ok-found-in-Moves-clause-finding : goal.returns-in_ok-found-in-Moves-clause-finding
+returns-in_ok-found-in-Moves-clause-finding c =
+    rw c.in-Moves.is (search_answered (search.Moves c.in-Moves.turn c.in-Moves.count) c.args.engine.now.past (found.Moves c.new-in-Moves.result) c.in_ok-found-in-Moves.ensures.refusal (ap found.Moves (c.new-in-Moves.ensures ∙ c.in_ok-found-in-Moves.ensures.value)))
 
 pub returns-in_ok-found-in-Transfers-clause-finding : goal.returns-in_ok-found-in-Transfers-clause-finding
 returns-in_ok-found-in-Transfers-clause-finding c =
