@@ -26,7 +26,8 @@ if TYPE_CHECKING:
     from .core.replies import BusCycle as BusCycle, CycleKind as CycleKind
     from .core.replies import Devices as Devices, LastWrite as LastWrite, Mode as Mode
     from .core.replies import Pages as Pages, Registers as Registers, Turn as Turn
-    from .core.replies import TurnAccesses as TurnAccesses, WordRead as WordRead
+    from .core.replies import TurnAccesses as TurnAccesses, TurnMoves as TurnMoves
+    from .core.replies import WordRead as WordRead
     from .core.struck import Fate as Fate, StruckKey as StruckKey
 
     NezdrabError = ExploreError
@@ -45,7 +46,7 @@ NAMES = {
     "program": "ProgramEnded TimedOut",
     "questions": "Question",
     "replies": "BusCycle CycleKind Devices LastWrite Mode Pages Registers Turn TurnAccesses "
-    "WordRead",
+    "TurnMoves WordRead",
     "struck": "Fate StruckKey",
 }
 PLACES = {name: f"core.{module}" for module, names in NAMES.items() for name in names.split()}

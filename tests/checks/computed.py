@@ -6,6 +6,7 @@ from tests.checks.disk_transfers import transfers
 from tests.checks.stored_systems import System
 from tests.checks.traps import may_trap, must_trap
 from tests.checks.turn_accesses import accesses
+from tests.checks.turn_moves import moves
 from tests.checks.virtual_places import MODES, Abort, is_register, physical
 from tests.checks.word_reads import first_reads
 
@@ -220,6 +221,7 @@ COMPUTED: dict[str, Callable[[System, list[str]], str]] = {
     "writes": writes,
     "reads": reads,
     "accesses": accesses,
+    "moves": moves,
     "change": change,
     "transfers": transfers,
     "text": lambda system, words: bytes_from("text", system, words),

@@ -1,12 +1,13 @@
 """Which lines lines.py asks of a stored system: many of each kind, with arguments that chance
 picks from a fixed seed, and with those at the edges."""
 import random
-from typing import Sequence, TypeVar
+from typing import Collection, Sequence, TypeVar
 
 from tests.checks.computed import OPERATORS
 from tests.checks.stored_systems import WORDS_OF_PAGE, System
 from tests.checks.traps import trap_of
 from tests.checks.turn_accesses import MOST_TURNS, cycles_of
+from tests.checks.turn_moves import acts_of
 from tests.checks.virtual_places import REGISTERS_AT
 from tests.checks.word_reads import first_reads
 
@@ -218,14 +219,22 @@ class Picker:
 
     def accesses(self) -> list[str]:
         """Of turns, each of whose cycles explore's rules tell."""
-        known = cycles_of(self.system)
+        return self.of_last_turns("accesses", cycles_of(self.system))
+
+    def moves(self) -> list[str]:
+        """Of turns that explore's rules follow; of none if the tape isn't followed from turn 0."""
+        known = {} if self.first and self.system.followed.tape else acts_of(self.system)
+        return self.of_last_turns("moves", known)
+
+    def of_last_turns(self, command: str, known: Collection[int]) -> list[str]:
+        """Lines of a command that takes a turn and a count, of turns that are known."""
         lines = []
         for turn in self.some(sorted(known), 12):
             first = turn
             while first in known and turn - first < MOST_TURNS:
                 first -= 1
-            lines += [f"accesses {turn + 1} {it}" for it in (1, turn - first)]
-        return [*lines, f"accesses {self.turn()} 65"]
+            lines += [f"{command} {turn + 1} {it}" for it in (1, turn - first)]
+        return [*lines, f"{command} {self.turn()} 65"]
 
     def changes(self) -> list[str]:
         on, whole = self.system.drive_word, f"{self.first} {self.last}"
@@ -330,7 +339,7 @@ class Picker:
         kinds = [self.at, self.acts, self.where, self.counts, self.writes, self.changes]
         kinds.append(self.transfers)
         kinds += [self.bytes_out, self.places, self.finds, self.finds_on_drives, self.fades]
-        kinds += [self.reads, self.accesses]
+        kinds += [self.reads, self.accesses, self.moves]
         found = [line for kind in kinds for line in kind()] + ["events", "setup"]
         found = list(dict.fromkeys(found))
         self.chance.shuffle(found)

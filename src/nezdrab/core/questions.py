@@ -23,8 +23,8 @@ from .errors import ExploreError
 from .found import Found, Transfer, readable
 from .language import STEPS, is_edit
 from .past import Event, Setup
-from .replies import Devices, LastWrite, Mode, Pages, Registers, Turn, TurnAccesses, WordRead
-from .replies import accesses_of, listed, text_of, turns_of, words_of
+from .replies import Devices, LastWrite, Mode, Pages, Registers, Turn, TurnAccesses, TurnMoves
+from .replies import WordRead, accesses_of, listed, moves_of, text_of, turns_of, words_of
 from .values import dataclass
 
 Answer = TypeVar("Answer")
@@ -204,6 +204,11 @@ def accesses(turn: SupportsIndex, count: SupportsIndex = 1) -> Question[Found[Tu
     gives all."""
     line = f"accesses {decimal(turn)} {decimal(count)}"
     return one(line, lambda reply: Found(*accesses_of(reply)))
+
+
+def moves(turn: SupportsIndex, count: SupportsIndex = 1) -> Question[list[TurnMoves]]:
+    """What the last 1 to 64 turns before this one made of what, in their order."""
+    return one(f"moves {decimal(turn)} {decimal(count)}", moves_of)
 
 
 def condition_in_numbers(where: str, number: Numbers) -> str:

@@ -18,10 +18,7 @@ use pdp_rk11::DiskMoves;
 use pdp_turn_moves::{ActMove, TapeRead};
 
 /// Writes how many lines follow, and a line for each move.
-pub fn send_moves<W: Drain>(
-    details: &FoundList<MoveDetail>,
-    writer: &mut W,
-) -> Result<(), Failed>
+pub fn send_moves<W: Drain>(details: &FoundList<MoveDetail>, writer: &mut W) -> Result<(), Failed>
     ensures { Sends (moves_text details.now) (W.output writer.old) (W.output writer.new) result }
 {
     let count = details.len();
