@@ -3,7 +3,7 @@ use Rattle.std.proofs.Common.{◌≡◌, ◌∙◌, ◌+◌, ◌*◌, ◌/◌, �
 use Rattle.std.specs.List.{All, filter, remove}
 use Rattle.std.proofs.lemmas.Bool.{cases_lt, le-leb, lt-leb}
 use Rattle.std.proofs.lemmas.List.{get_or-take, length-take}
-use Rattle.std.proofs.lemmas.List.Elements.{All-append, All-push}
+use Rattle.std.proofs.lemmas.List.Elements.{All-append, All-push, All-take}
 use Rattle.std.proofs.lemmas.Option.{get_or_from_slice_get, slice_get_within}
 use Rattle.std.proofs.Math.Nat.{lt-div-mul-add, mul-le-mul_right}
 use Rattle.pdp_checkpoint.specs.declared.checkpoint.Checkpoint.{Checkpoint}
@@ -57,6 +57,33 @@ former_first xs ys f there = record { place = there.place; former = get_on xs ys
 
 pub each_former_in : (xs : List FormerData) → All (IsFormerIn xs) xs
 each_former_in xs k d inside = record { place = k; former = get_at xs k d inside }
+
+-- some of these former runs: with or without the first, the first of those, and that or none
+after_first : (xs : List FormerData) → All (IsFormerIn xs) (remove xs 0)
+after_first [] k d inside = absurd (omega (arith, inside))
+after_first (x ∷ xs) k d inside = record { place = suc k; former = get_at xs k d inside }
+
+rest_in : (formers rest : List FormerData) → (rest ≡ remove formers 0) ⊎ (rest ≡ formers) → All (IsFormerIn formers) rest
+rest_in formers rest begun =
+    ⊎_elim
+    (λ (fewer : rest ≡ remove formers 0). subst (All (IsFormerIn formers)) (sym fewer) (after_first formers))
+    (λ (same : rest ≡ formers). subst (All (IsFormerIn formers)) (sym same) (each_former_in formers))
+    begun
+
+pub one_left : (formers rest one left : List FormerData) → (rest ≡ remove formers 0) ⊎ (rest ≡ formers) → one ≡ take 1 rest → (left ≡ []) ⊎ (left ≡ one)
+    → All (IsFormerIn formers) left
+one_left formers rest one left begun first is =
+    ⊎_elim
+    (λ (none : left ≡ []). subst (All (IsFormerIn formers)) (sym none) (λ k d inside. absurd (omega (arith, inside))))
+    (λ (same : left ≡ one). subst (All (IsFormerIn formers)) (sym (same ∙ first)) (All-take (IsFormerIn formers) 1 rest (rest_in formers rest begun)))
+    is
+
+pub one_at_most : (rest one left : List FormerData) → one ≡ take 1 rest → (left ≡ []) ⊎ (left ≡ one) → length left ≤ 1
+one_at_most rest one left first is =
+    ⊎_elim
+    (λ (none : left ≡ []). let size = ap length none in omega (arith, size))
+    (λ (same : left ≡ one). let size = ap length (same ∙ first) ∙ length-take 1 rest in omega (arith, size))
+    is
 
 -- one more state, for the last by a turn
 pub later_last : (states : List Checkpoint) (turn : ℕ) (last : Option Checkpoint) (c : Checkpoint) → turn < c.turn → IsLastBy states turn last

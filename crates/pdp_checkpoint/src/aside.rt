@@ -2,7 +2,7 @@
 
 ghost use Rattle.std.specs.Prelude.{◌≡◌, ◌≤◌, ◌++◌, ◌∷◌, ◌⊎◌, [], drop, length, map};
 ghost use Rattle.std.specs.Prelude.{nat_le, take};
-ghost use Rattle.std.specs.List.{All, filter};
+ghost use Rattle.std.specs.List.{All, filter, remove};
 ghost use Rattle.pdp_checkpoint.specs.Formers.{former_edited, IsAbove, IsFormerIn, IsLeft};
 ghost use Rattle.pdp_checkpoint.specs.Formers.{IsStateIn, most_formers};
 
@@ -45,23 +45,55 @@ pub(crate) fn split_near(alloc: Global, near: &mut Vec<Checkpoint>, turn: u32) -
     late
 }
 
-/// Adds a former run to these. Of the others the one that was known up to the greatest turn stays,
-/// if that is above the turn up to which this one was known. If memory is refused it is dropped.
-pub(crate) fn add_former(formers: &mut Vec<Former>, former: Former)
+/// Adds a former run to these, which are at most two. One of the others stays: of those that the
+/// run doesn't make needless (`is_needless`), the one that was known up to the greatest turn, and
+/// of two the later one. `met` is the number of the one that the run met last. If memory is refused
+/// the run is dropped.
+pub(crate) fn add_former(formers: &mut Vec<Former>, former: Former, met: u64)
     ensures left { All (IsLeft former formers.old.items) formers.new.items }
     ensures few { length formers.new.items ≤ most_formers }
 {
-    keep_longer(formers, former.known());
+    keep_one(formers, former.known(), met);
     add(formers, former);
 }
 
-/// Drops all former runs but the first that was known up to a turn above this one.
-fn keep_longer(formers: &mut Vec<Former>, known: u32)
+/// Drops all former runs but one, and that too if it is needless.
+fn keep_one(formers: &mut Vec<Former>, known: u32, met: u64)
     ensures left { All (IsFormerIn formers.old.items) formers.new.items }
     ensures few { length formers.new.items ≤ 1 }
 {
-    formers.retain(|former| former.known() > known);
+    drop_first(formers, known, met);
     formers.truncate(1);
+    drop_needless(formers, known, met);
+}
+
+/// Drops the first of two former runs, if the second one stays.
+fn drop_first(formers: &mut Vec<Former>, known: u32, met: u64)
+    ensures { (formers.new.items ≡ remove formers.old.items 0)
+        ⊎ (formers.new.items ≡ formers.old.items) }
+{
+    if formers.len() < 2 || is_needless(&formers[1], known, met) {
+        return;
+    }
+    if is_needless(&formers[0], known, met) || formers[0].known() <= formers[1].known() {
+        formers.remove(0);
+    }
+}
+
+/// Drops these former runs if the first is needless.
+fn drop_needless(formers: &mut Vec<Former>, known: u32, met: u64)
+    ensures { (formers.new.items ≡ []) ⊎ (formers.new.items ≡ formers.old.items) }
+{
+    if !formers.is_empty() && is_needless(&formers[0], known, met) {
+        formers.clear();
+    }
+}
+
+/// Whether a former run is needless beside one that was known up to turn `known` and met the one of
+/// number `met`: it was known less far, or no farther and is the one that was met. Both are alike
+/// from there on.
+fn is_needless(former: &Former, known: u32, met: u64) -> bool {
+    former.known() < known || former.known() == known && former.number() == met
 }
 
 /// Adds an item to a list, unless memory is refused for it.

@@ -21,6 +21,10 @@ pub struct Former {
     output: SavedOutput,
     edited: u32,
     known: u32,
+
+    // What tells it from the other former runs of a ladder; 0 if it is in none yet. No contract
+    // sees it.
+    number: u64,
 }
 
 impl Model for Former {
@@ -53,6 +57,7 @@ impl Former {
             output,
             edited,
             known,
+            number: 0,
         }
     }
 
@@ -84,11 +89,26 @@ impl Former {
         self.edited = self.edited.max(turn);
     }
 
-    /// The run with these states: checkpoints, and states between them.
-    pub(crate) fn with_states(self, kept: Vec<Checkpoint>, near: Vec<Checkpoint>) -> Former
+    /// What tells the run from the other former runs of a ladder.
+    pub(crate) fn number(&self) -> u64 {
+        self.number
+    }
+
+    /// The run under this number, with these states: checkpoints, and states between them.
+    pub(crate) fn with_states(
+        self,
+        kept: Vec<Checkpoint>,
+        near: Vec<Checkpoint>,
+        number: u64,
+    ) -> Former
         ensures { result ≡ with_states (kept.items ++ near.items) self }
     {
-        Former { kept, near, ..self }
+        Former {
+            kept,
+            near,
+            number,
+            ..self
+        }
     }
 
     /// The state of the greatest turn that is not above `turn`; None if there is none.

@@ -44,9 +44,14 @@ pub struct Ladder {
     stride: u32,
     near: Vec<Checkpoint>,
 
-    // The one that was known up to the greatest turn, if that is more than was known of the other,
-    // and the one that was set aside last.
+    // One that was left when another was set aside (`add_former`), and the one that was set aside
+    // last.
     formers: Vec<Former>,
+
+    // How many former runs there were, and the number of the one that the run met last; 0 if it met
+    // none. No contract sees them.
+    set_aside: u64,
+    met: u64,
 }
 
 impl Model for Ladder {
@@ -97,6 +102,8 @@ impl Ladder {
             stride,
             near: Vec::new(alloc),
             formers: Vec::new(alloc),
+            set_aside: 0,
+            met: 0,
         })
     }
 
@@ -255,7 +262,10 @@ impl Ladder {
         let count = (turn / self.stride) as usize + 1;
         let kept = split_kept(alloc, &mut self.kept, count);
         let near = split_near(alloc, &mut self.near, turn);
-        add_former(&mut self.formers, former.with_states(kept, near));
+        self.set_aside = self.set_aside.saturating_add(1);
+        let former = former.with_states(kept, near, self.set_aside);
+        add_former(&mut self.formers, former, self.met);
+        self.met = 0;
     }
 
     /// An edit of the past may have changed the events of turns up to `turn`. It takes no memory.
@@ -304,6 +314,14 @@ impl Ladder {
         ensures { self.new ≡ record self.old { formers = formers.items } }
     {
         self.formers = formers;
+    }
+
+    /// The run goes on as this former run did. When it is set aside, it takes the place of that one,
+    /// and the other one stays. It takes no memory.
+    pub fn meet(&mut self, former: &Former)
+        ensures { self.new ≡ self.old }
+    {
+        self.met = former.number();
     }
 
     /// Makes these the delays (turns) of the devices in the checkpoint of turn 0, and drops the

@@ -203,7 +203,7 @@ const KEY: Event = Event::Key(0o101);
 
 const OTHER_KEY: Event = Event::Key(0o102);
 
-const EDITS_THAT_FADE: [TestedStep; 8] = [
+const EDITS_THAT_FADE: [TestedStep; 10] = [
     TestedStep::Edit(TestedEdit::Insert(100, KEY), Ok(1)),
     TestedStep::Ran(Question::Regs(200_000), 200_000, 200_000),
     TestedStep::Edit(TestedEdit::Alter(1, 101, KEY), Ok(0)),
@@ -211,6 +211,8 @@ const EDITS_THAT_FADE: [TestedStep; 8] = [
     TestedStep::Edit(TestedEdit::Alter(1, 101, OTHER_KEY), Ok(0)),
     TestedStep::Ran(Question::Regs(200_000), 199_899, 200_000),
     TestedStep::Edit(TestedEdit::Alter(1, 101, OTHER_KEY), Ok(0)),
+    TestedStep::Ran(Question::Regs(200_000), 8_192, 200_000),
+    TestedStep::Edit(TestedEdit::Alter(1, 101, KEY), Ok(0)),
     TestedStep::Ran(Question::Regs(200_000), 8_192, 200_000),
 ];
 

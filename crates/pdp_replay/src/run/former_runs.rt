@@ -97,6 +97,7 @@ impl KeptRun {
         if !self.meets(former, there) {
             return Ok(());
         }
+        self.ladder.meet(former);
         self.go_on(alloc, former, there, to)
     }
 

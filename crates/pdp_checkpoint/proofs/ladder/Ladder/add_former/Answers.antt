@@ -22,7 +22,7 @@ invariant_of-self c =
       checkpoints = rw c.split_kept-kept.ensures.kept (checkpoints_beside _ c.split_near-near.new.near.items c.add_former.new.formers.items cut);
       near = omega (arith, few, most);
       formers = formers_left c.split_kept-kept.result.items c.split_near-near.result.items c.args.former l.formers c.add_former.new.formers.items small c.self.invariant.formers
-          (subst (λ f. All (IsLeft f l.formers) c.add_former.new.formers.items) c.with_states.ensures c.add_former.ensures.left) c.add_former.ensures.few;
+          (subst (λ f. All (IsLeft f l.formers) c.add_former.new.formers.items) c.with_states-former.ensures c.add_former.ensures.left) c.add_former.ensures.few;
     }
 
 pub returns-clause-kept : goal.returns-clause-kept
@@ -38,7 +38,7 @@ returns-clause-formers c =
     let l : LadderData = record { kept = c.self.inside.kept.items; stride = c.self.inside.stride; near = c.self.inside.near.items; formers = c.self.inside.formers.items } in
     rw (← c.self.view_is) (is_set_aside l c.args.turn c.split_kept-kept.result.items c.split_near-near.result.items l.formers c.add_former.new.formers.items c.args.former c.self.invariant.checkpoints
     c.split_kept-kept.ensures.late c.split_near-near.ensures.late
-    (subst (λ f. All (IsLeft f l.formers) c.add_former.new.formers.items) c.with_states.ensures c.add_former.ensures.left))
+    (subst (λ f. All (IsLeft f l.formers) c.add_former.new.formers.items) c.with_states-former.ensures c.add_former.ensures.left))
 
 pub returns-clause-checkpoints : goal.returns-clause-checkpoints
 returns-clause-checkpoints c = (invariant_of-self c).checkpoints
