@@ -45,10 +45,9 @@ pub(crate) fn split_near(alloc: Global, near: &mut Vec<Checkpoint>, turn: u32) -
     late
 }
 
-/// Adds a former run to these, which are at most two. One of the others stays: of those that the
-/// run doesn't make needless (`is_needless`), the one that was known up to the greatest turn, and
-/// of two the later one. `met` is the number of the one that the run met last. If memory is refused
-/// the run is dropped.
+/// Adds a former run to at most two others. `met` is the number of the one that this run met last.
+/// Of the others that aren't needless (`is_needless`) the one that was known up to the greatest
+/// turn stays, of two such the later one. If memory is refused, the run that is added is dropped.
 pub(crate) fn add_former(formers: &mut Vec<Former>, former: Former, met: u64)
     ensures left { All (IsLeft former formers.old.items) formers.new.items }
     ensures few { length formers.new.items ≤ most_formers }
@@ -57,7 +56,7 @@ pub(crate) fn add_former(formers: &mut Vec<Former>, former: Former, met: u64)
     add(formers, former);
 }
 
-/// Drops all former runs but one, and that too if it is needless.
+/// Drops all former runs except one, and that one too if it is needless.
 fn keep_one(formers: &mut Vec<Former>, known: u32, met: u64)
     ensures left { All (IsFormerIn formers.old.items) formers.new.items }
     ensures few { length formers.new.items ≤ 1 }
@@ -67,7 +66,7 @@ fn keep_one(formers: &mut Vec<Former>, known: u32, met: u64)
     drop_needless(formers, known, met);
 }
 
-/// Drops the first of two former runs, if the second one stays.
+/// Drops the first of two former runs, if the second one is to stay.
 fn drop_first(formers: &mut Vec<Former>, known: u32, met: u64)
     ensures { (formers.new.items ≡ remove formers.old.items 0)
         ⊎ (formers.new.items ≡ formers.old.items) }
@@ -80,7 +79,7 @@ fn drop_first(formers: &mut Vec<Former>, known: u32, met: u64)
     }
 }
 
-/// Drops these former runs if the first is needless.
+/// Drops all former runs, if the first one is needless.
 fn drop_needless(formers: &mut Vec<Former>, known: u32, met: u64)
     ensures { (formers.new.items ≡ []) ⊎ (formers.new.items ≡ formers.old.items) }
 {
@@ -89,9 +88,9 @@ fn drop_needless(formers: &mut Vec<Former>, known: u32, met: u64)
     }
 }
 
-/// Whether a former run is needless beside one that was known up to turn `known` and met the one of
-/// number `met`: it was known less far, or no farther and is the one that was met. Both are alike
-/// from there on.
+/// Whether a former run is needless beside a run that was known up to turn `known` and met the
+/// former run of number `met`. It is if it was known up to an earlier turn. If it was known up to
+/// the same turn, it is if it is the one that was met: the two runs have the same later states.
 fn is_needless(former: &Former, known: u32, met: u64) -> bool {
     former.known() < known || former.known() == known && former.number() == met
 }

@@ -22,7 +22,7 @@ pub struct Former {
     edited: u32,
     known: u32,
 
-    // What tells it from the other former runs of a ladder; 0 if it is in none yet. No contract
+    // Each former run of a ladder has another number, from 1 on; 0 outside of a ladder. No contract
     // sees it.
     number: u64,
 }
@@ -89,7 +89,7 @@ impl Former {
         self.edited = self.edited.max(turn);
     }
 
-    /// What tells the run from the other former runs of a ladder.
+    /// Its number in a ladder.
     pub(crate) fn number(&self) -> u64 {
         self.number
     }

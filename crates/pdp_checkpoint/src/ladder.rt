@@ -44,12 +44,12 @@ pub struct Ladder {
     stride: u32,
     near: Vec<Checkpoint>,
 
-    // One that was left when another was set aside (`add_former`), and the one that was set aside
-    // last.
+    // The one that stayed when another one was set aside (`add_former`), and the one that was set
+    // aside last.
     formers: Vec<Former>,
 
-    // How many former runs there were, and the number of the one that the run met last; 0 if it met
-    // none. No contract sees them.
+    // The number of the former run that was set aside last, and of the one that the run met last; 0
+    // if there is none. No contract sees them.
     set_aside: u64,
     met: u64,
 }
@@ -316,8 +316,8 @@ impl Ladder {
         self.formers = formers;
     }
 
-    /// The run goes on as this former run did. When it is set aside, it takes the place of that one,
-    /// and the other one stays. It takes no memory.
+    /// Notes that the run met this former run and goes on as it did. When the run is set aside, it
+    /// takes the place of this former run, and the other one stays (`set_aside`).
     pub fn meet(&mut self, former: &Former)
         ensures { self.new ≡ self.old }
     {
