@@ -238,10 +238,7 @@ fn disk_detail(disk: Option<DiskMoves>) -> Option<MoveDetail>
 /// Adds what the beginning of a turn moved.
 ///
 /// Err if memory was refused.
-fn list_beginning(
-    details: &mut Vec<MoveDetail>,
-    beginning: BeginningMoves,
-) -> Result<(), NoMemory>
+fn list_beginning(details: &mut Vec<MoveDetail>, beginning: BeginningMoves) -> Result<(), NoMemory>
     ensures { OnOk result (details.new.items
         ≡ details.old.items ++ beginning_details beginning) }
 {
