@@ -48,7 +48,7 @@ from tests.pseudo_terminal import NotShown, PseudoTerminal
 
 ROOT = os.path.normpath(os.path.join(os.path.dirname(os.path.abspath(__file__)), "..", ".."))
 README, DOCS, DEFINITIONS = "README.md", "docs", "crates/DEFINITIONS.md"
-WIDEST_PROSE, WIDEST_CELL, MOST_LINES = 100, 120, 2550
+WIDEST_PROSE, WIDEST_CELL, MOST_LINES = 100, 120, 2300
 NOT_REPLAYED = {"python", "text", "sh", "rust"}
 SESSION, SEARCH, COMMANDS, OUTPUT, TYPED = "session", "search", "commands", "output", "typed"
 EXPLORE, PROMPT = "explore", "explore> "
