@@ -20,7 +20,8 @@ BUFFERS = {**cells.OUTPUTS, **cells.INPUTS}
 KSP, _ = cells.register_cells(cells.KSP)
 HALF = re.compile(r"\.[01]\b")
 MOVING = ("read", "write")
-READER_BUSY = 0o4000
+PRS, READER_BUSY = 0o777550, 0o4000
+CODES_SET = range(0o240, 0o300)
 BEGINNINGS = ("TKB of event", "switches of event", "PRB of tape")
 
 
@@ -72,10 +73,13 @@ def of_words(lines: Iterable[str]) -> list[str]:
     return sorted({it for it in words if not it.endswith(" of code C")})
 
 
-def goes_red(flow: Flow) -> bool:
-    """Whether KSP gets a constant, as in the red sequence: of what that one pushed before, explore
-    follows no steps."""
-    return any(it.cell == KSP and not it.values for it in flow.moves)
+def is_told_alike(flow: Flow) -> bool:
+    """Whether explore and the program tell a turn alike, word by word. Of the red sequence, in which
+    KSP gets a constant, explore doesn't follow what was pushed before, and of a write to PRS not
+    what that leaves in PRB. Of codes that are set, and of a write to PS, the program names all."""
+    is_red = any(it.cell == KSP and not it.values for it in flow.moves)
+    writes = any(it.is_write_of(PRS) or it.is_write_of(cells.PS) for it in flow.cycles)
+    return not is_red and not writes and flow.word not in CODES_SET
 
 
 @functools.lru_cache(maxsize=1)
@@ -86,7 +90,7 @@ def acts_of(system: System) -> dict[int, list[str]]:
     with closing(Machine(start)) as machine:
         machine.edit_all(system.own)
         for _, flow, fault in each_flow(machine, range(system.turns[0], system.turns[-1])):
-            if not fault and not goes_red(flow):
+            if not fault and is_told_alike(flow):
                 found[flow.turn] = act_lines(flow)
     return found
 

@@ -40,8 +40,8 @@ buffer_name buffer.Punch = codes "PPB"
 buffer_name buffer.Switches = codes "switches"
 
 -- a register by its place: places 6 and 7 are the stack pointers of the two modes
-abbrev pub register_name : ℕ → List ℕ
-register_name place =
+abbrev pub name_of_place : ℕ → List ℕ
+name_of_place place =
     if place == 6 then codes "KSP"
     else if place == 7 then codes "USP"
     else codes "R" ++ decimal place
@@ -54,7 +54,7 @@ drive_word_text drive word = codes "disk " ++ decimal drive ++ codes " " ++ octa
 unfoldable pub cell_text : CellName → List ℕ
 cell_text (name.CoreByte word h) = codes "core " ++ address_text word ++ half_text h
 cell_text (name.DriveByte drive word h) = drive_word_text drive word ++ half_text h
-cell_text (name.RegisterByte place h) = register_name place ++ half_text h
+cell_text (name.RegisterByte place h) = name_of_place place ++ half_text h
 cell_text (name.CodeNow c) = codes "code " ++ code_name c
 cell_text (name.Buffer b) = buffer_name b
 cell_text (name.TapeByte number) = codes "tape " ++ decimal number

@@ -3,7 +3,7 @@ ghost use Rattle.pdp_session.specs.Reply.{line_at};
 ghost use Rattle.pdp_session.specs.MoveLines.{act_line, buffer_name, cell_text, code_name};
 ghost use Rattle.pdp_session.specs.MoveLines.{disk_line, drive_word_text, half_text};
 ghost use Rattle.pdp_session.specs.MoveLines.{in_place_text, move_line, moves_text};
-ghost use Rattle.pdp_session.specs.MoveLines.{numbered_line, reader_line, register_name};
+ghost use Rattle.pdp_session.specs.MoveLines.{numbered_line, reader_line, name_of_place};
 ghost use Rattle.pdp_session.specs.MoveLines.{tape_end_text};
 ghost use Rattle.pdp_session.specs.Inside.Sends.{Sends};
 
@@ -207,7 +207,7 @@ fn add_drive_word(text: &mut Text, drive: u32, word: u32)
 /// Adds a register by its place.
 fn add_register_name(text: &mut Text, place: u8)
     requires { length text.old.items + 4 ≤ LONGEST_TEXT }
-    ensures text { text.new.items ≡ text.old.items ++ register_name place }
+    ensures text { text.new.items ≡ text.old.items ++ name_of_place place }
     ensures length { length text.new.items ≤ length text.old.items + 4 }
 {
     if place == 6 {
