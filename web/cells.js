@@ -46,6 +46,18 @@ const NAMES_ON_THE_BUS = new Map([
   [0o777410, "RKBA"], [0o777412, "RKDA"], [0o777572, "SR0"], [0o777576, "SR2"], [PS, "PS"],
 ]);
 
+/** The cell that a line of `moves` names, such as `core 001000.1`, `R0.0`, `code N` or `TKB`.
+    @param {string} text */
+export function cellNamed(text) {
+  const [word, half = "0"] = text.split("."), [first, one = "", two = ""] = word.split(" ");
+  const register = REGISTER_NAMES.indexOf(first);
+  if (register >= 0) return registerCells(register)[Number(half)];
+  if (first === "core") return parseInt(one, 8) + Number(half);
+  if (first === "disk") return driveCell(Number(one), parseInt(two, 8), Number(half));
+  if (first === "code") return NAMES_OF_CODES.indexOf(word) + CODES;
+  return [...NAMES_ON_THE_BUS].find(([, name]) => name === first)?.[0] ?? POINT;
+}
+
 /** The low and the high byte of a register.
     @param {number} register */
 export function registerCells(register) {

@@ -14,8 +14,8 @@ export const KERNEL = 0;
 export const USER = 3;
 
 /**
- * The registers before a turn: R0 to R5, KSP and USP, and PC and PS.
- * @typedef {{words: number[], pc: number, ps: number}} Row
+ * The registers before a turn: R0 to R5, KSP and USP, PC and PS, and whether it is halted.
+ * @typedef {{words: number[], pc: number, ps: number, isHalted: boolean}} Row
  * @typedef {ReturnType<typeof turnsOf>[number]} Act
  * @typedef {{act: Act, before: Row, after: Row, trap: number | null}} Seen a turn with the
  *   registers before and after it, and the vector of the trap that it has
@@ -30,8 +30,8 @@ const TRAPS = [0o4, 0o10, 0o250];
 
 /** @param {string} reply @returns {Row} */
 export function rowOfReply(reply) {
-  const { words, pc, ps } = registersOf(mustBeTaken(reply));
-  return { words: REGISTER_NAMES.map(it => words[it]), pc, ps };
+  const { words, pc, ps, state } = registersOf(mustBeTaken(reply));
+  return { words: REGISTER_NAMES.map(it => words[it]), pc, ps, isHalted: state === "halted" };
 }
 
 export class Facts {

@@ -72,7 +72,7 @@ export class Operands {
     /** @type {number[]} */
     this.registers = [];
     /** @type {import("./facts.js").Row} */
-    this.after = { words: [], pc: 0, ps: 0 };
+    this.after = { words: [], pc: 0, ps: 0, isHalted: false };
     /** @type {number | null} of the trap that the turn has, until it comes */
     this.vector = null;
     this.pc = 0;
@@ -206,7 +206,7 @@ export class Operands {
     return { register: null, address };
   }
 
-  /** The cells of the low and of the high byte.
+  /** The cells of the low and of the high byte. TPB and PPB read 0.
       @param {Operand} operand @param {boolean} isByte @returns {Promise<Values>} */
   async read({ register, address }, isByte, mode = this.mode) {
     if (register === null) return this.cellsAt(await this.reach(mode, address, isByte), isByte);
@@ -218,7 +218,7 @@ export class Operands {
   /** @param {number} place @param {boolean} isByte @returns {Values} */
   cellsAt(place, isByte) {
     const [low, high] = wordCells(place);
-    const halves = low === PS ? WHOLE_PS : [[low], [high]];
+    const halves = low === PS ? WHOLE_PS : OUTPUTS.has(low) ? NO_VALUES : [[low], [high]];
     return isByte ? [halves[place & 1], []] : [halves[0], halves[1]];
   }
 

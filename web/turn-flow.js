@@ -3,7 +3,8 @@
 // src/nezdrab/analysis/turn_flow.py; tests compare what comes of both.
 
 import {
-  ALL_CODES, CODE_C, CODE_N, KSP, MASK, OF_THE_DISK, REGISTER_NAMES, REST, registerCells, wordCells,
+  ALL_CODES, CODE_C, CODE_N, KSP, MASK, OF_THE_DISK, PS, REGISTER_NAMES, REST, registerCells,
+  wordCells,
 } from "./cells.js";
 import { KERNEL, USER } from "./facts.js";
 import { EXTENDED, KEPT, LETTERS, MOVED, XOR, rowOf } from "./made-of.js";
@@ -159,17 +160,19 @@ export class Flows extends Operands {
     return await this.space.answers(KERNEL, address, place) ? place : null;
   }
 
-  /** Whether the sequence to this mode became the red one, by the pointers after it; if KSP is 0
-      both before and after it, by the stamp of what that one has saved.
+  /** Whether the sequence to this mode became the red one, which may halt: by the pointers after
+      it; if KSP is 0 both before and after it, by the stamp of what that one has saved.
       @param {number} mode */
   async goesRed(mode) {
+    if (this.after.isHalted) return true;
     const pointers = [...this.registers], { words } = this.after;
     pointers[pointerOf(mode)] = pointers[pointerOf(mode)] - 4 & MASK;
     if (pointers.slice(KSP).some((word, at) => word !== words[KSP + at])) return true;
     return words[KSP] === 0 && await this.isStamped(await this.space.place(KERNEL, 2));
   }
 
-  /** What the sequence pushed before it became the red one: the old PS, or nothing.
+  /** What the sequence pushed before it became the red one: the old PS, or nothing. KSP is lost
+      then. PS has the old PS if that was pushed there.
       @param {number} mode */
   async failingPushes(mode) {
     const pointer = pointerOf(mode), first = this.registers[pointer] - 2 & MASK;
@@ -177,10 +180,11 @@ export class Flows extends Operands {
     const hasSecond = mode !== KERNEL && this.after.words[pointer] === second;
     for (const address of [first, second]) {
       const isBelow = mode === KERNEL && address < STACK_LIMIT;
+      if (mode !== KERNEL) this.stepNumber(pointer, -2);
       const place = address & 1 || isBelow ? null : await this.space.place(mode, address);
       if (place === null || !await this.space.answers(mode, address, place)) return;
       if (address !== first || !(hasSecond || await this.isStamped(place))) return;
-      await this.store(place, false, WHOLE_PS, "saved");
+      if (place !== PS) await this.store(place, false, WHOLE_PS, "saved");
     }
   }
 
@@ -340,10 +344,11 @@ export class Flows extends Operands {
       await this.push(POINTS, this.mode, "saved");
       return;
     }
-    const number = this.number(register), [low, high] = registerCells(number);
-    await this.push([[low], [high]], this.mode);
+    const [low, high] = registerCells(this.number(register));
+    const keepsMode = await this.push([[low], [high]], this.mode);
+    if (!keepsMode) this.mode = this.after.ps >> 14; // which the push has changed
     this.instant += 1;
-    this.setRegister(number, POINTS, "saved");
+    this.setRegister(this.number(register), POINTS, "saved");
   }
 
   /** @param {number} register */

@@ -1,8 +1,8 @@
-// The panel of what the cursor's turn does: its events and cycles on the bus, as `accesses` has
-// them, and the moves of data in it. What a row names can be asked why it is so.
+// The panel of what the cursor's turn does: its events and cycles on the bus, as the line `accesses`
+// has them, and its moves of data, as `moves` has them. What a row names can be asked why it is so.
 
 import {
-  POINT, REGISTER_NAMES, REST, coreWord, firstOf, isCode, isCore, isOfDrive, isOnBus, isRegister,
+  REGISTER_NAMES, cellNamed, coreWord, firstOf, isCode, isCore, isOfDrive, isOnBus, isRegister,
   nameOfCell, wordOf,
 } from "./cells.js";
 import { isSame, markTurn, stateOf } from "./cursor.js";
@@ -11,48 +11,31 @@ import { element, link, make, table } from "./page.js";
 import { eventInWords } from "./past.js";
 import { LAST_TURN, counted, lengthOf, octal } from "./replies.js";
 import { Priority } from "./run.js";
-import { NotFollowed } from "./space.js";
 import { transfersOf } from "./transfers.js";
-import { Flows } from "./turn-flow.js";
 import { Values } from "./values.js";
 
-/** @type {Object<import("./operands.js").How, string>} */
-const HOW = { value: "made of", copy: "copied from", saved: "saved from", step: "stepped from",
-  code: "set by" };
-
 /**
- * Cells that get their values at once, of these cells. `isFirst` says that no move before it in the
- * turn has written one of these: they have the values of before the turn; `isLast` that no move
- * after it writes the cells again.
- * @typedef {{targets: number[], sources: number[], how: import("./operands.js").How,
- *   isFirst: boolean, isLast: boolean}} Group
- * @typedef {import("./operands.js").Move} Move
+ * A word, or the condition codes, after the act of a turn, and the words that it is made of.
+ * @typedef {{targets: number[], sources: number[]}} Group
  * @typedef {import("./page.js").Inside} Inside
  */
 
-/** Cells in their order, of which PS has its codes in it.
-    @param {Set<number>} cells */
-function ordered(cells) {
-  const found = [...cells].sort((a, b) => b - a), hasAll = cells.has(REST);
-  return found.filter(it => !(hasAll && isCode(it) && it < REST));
-}
+/** Each word once, and N before Z, V and C.
+    @param {number[]} cells */
+const ordered = cells => [...new Set(cells.map(firstOf))].sort((a, b) => b - a);
 
-/** The moves of each word, or of the condition codes, as one.
-    @param {Move[]} moves @returns {Group[]} */
-export function groupsOf(moves) {
-  /** @type {Map<string, Move[]>} */
+/** The lines of `moves` that are of cells, as groups.
+    @param {string[]} lines @returns {Group[]} */
+export function groupsOf(lines) {
+  /** @type {Map<string | number, number[][]>} */
   const groups = new Map();
-  for (const it of moves) {
-    const key = `${it.instant} ${isCode(it.cell) ? "codes" : firstOf(it.cell)}`;
-    groups.set(key, [...groups.get(key) ?? [], it]);
+  for (const line of lines) {
+    const [cell, ...source] = line.split(" of ").filter(it => it !== "nothing").map(cellNamed);
+    const key = isCode(cell) ? "codes" : firstOf(cell);
+    groups.set(key, [...groups.get(key) ?? [], [cell, ...source]]);
   }
-  return [...groups.values()].map(group => {
-    const [{ how, instant }] = group, targets = new Set(group.map(it => firstOf(it.cell)));
-    const sources = new Set(group.flatMap(it => it.values).map(firstOf));
-    return { how, targets: ordered(targets), sources: ordered(sources),
-      isFirst: !moves.some(it => it.instant < instant && sources.has(firstOf(it.cell))),
-      isLast: !moves.some(it => it.instant > instant && targets.has(firstOf(it.cell))) };
-  });
+  return [...groups.values()].map(group => ({ targets: ordered(group.map(([cell]) => cell)),
+    sources: ordered(group.flatMap(([, ...source]) => source)) }));
 }
 
 /** What Why is asked about for a cell; null of what it doesn't follow.
@@ -60,8 +43,7 @@ export function groupsOf(moves) {
 function thingOf(cell) {
   if (isCore(cell) || isOfDrive(cell)) return wordOf(cell);
   if (isRegister(cell)) return { kind: "register", name: REGISTER_NAMES[cell >> 1 & 7] };
-  if (!isCode(cell) || cell === POINT) return null;
-  return { kind: "register", name: cell === REST ? "PS" : nameOfCell(cell, false).slice(-1) };
+  return isCode(cell) ? { kind: "register", name: nameOfCell(cell, false).slice(-1) } : null;
 }
 
 export class TurnPanel {
@@ -161,31 +143,44 @@ export class TurnPanel {
 
   // Moves
 
-  /** The moves of data of a turn as a table, or why they aren't known.
+  /** The moves of data of a turn as a table.
       @param {Facts} facts @param {number} turn */
   async moves(facts, turn) {
-    try {
-      const [{ moves }] = await new Flows(facts).of(turn, turn + 1);
-      const values = new Values(facts), groups = groupsOf(moves);
-      const rows = await values.known(() => groups.map(it => this.move(it, values, turn)));
-      return rows.length ? table("Moves of data in the turn", ["moved to", "", ""], rows)
-        : make("p", { class: "faint" }, "It moves no data.");
-    } catch (error) {
-      if (!(error instanceof NotFollowed)) throw error;
-      return make("p", { class: "faint" }, `${error.message}.`);
-    }
+    const [, , ...lines] = (await facts.one(`moves ${turn + 1} 1`)).split("\n");
+    const events = facts.past.script.filter(it => it.turn === turn);
+    const isOfAct = (/** @type {string} */ it) => !/^disk [a-z]| of (event|tape) /.test(it);
+    const isKnown = !lines.some(it => /^disk [a-z]/.test(it));
+    const values = new Values(facts), groups = groupsOf(lines.filter(isOfAct));
+    const rows = await values.known(() => groups.map(it => this.move(it, values, turn, isKnown)));
+    const begun = lines.filter(it => !isOfAct(it)).map(it => this.begun(it, events));
+    return begun.length + rows.length
+      ? table("Moves of data in the turn", ["moved to", "made of"], [...begun, ...rows])
+      : make("p", { class: "faint" }, "It moves no data.");
   }
 
-  /** @param {Group} group @param {Values} values @param {number} turn @returns {Inside[]} */
-  move({ targets, sources, how, isFirst, isLast }, values, turn) {
-    /** @param {number[]} cells @param {number} before @param {boolean} isKnown */
-    const list = (cells, before, isKnown) => make("span", {}, ...cells.flatMap((cell, at) => {
-      const hasValue = isKnown && !isOnBus(cell) && cell !== POINT;
-      const text = hasValue ? values.named(cell, before) : values.name(cell);
+  /** What the beginning of the turn moves.
+      @param {string} line @param {import("./past.js").ScriptEvent[]} events @returns {Inside[]} */
+  begun(line, events) {
+    const [what, source] = line.split(" of "), [kind, number] = (source ?? "").split(" ");
+    if (kind === "event") return [what, this.event(events[Number(number)])[1]];
+    if (kind === "tape") return [what, `byte ${number} of the tape`];
+    const [, name, drive, index, core, count] = line.split(" ");
+    const sides = [`core ${core}`, `word ${index} of drive ${drive}`];
+    const [to, from] = name === "write" ? sides.reverse() : sides;
+    return [`${to}, ${counted(Number(count), "word")}`, from];
+  }
+
+  /** A move. If a source isn't known to have the value of before the turn, that isn't shown.
+      @param {Group} group @param {Values} values @param {number} turn @param {boolean} isKnown
+      @returns {Inside[]} */
+  move({ targets, sources }, values, turn, isKnown) {
+    /** @param {number[]} cells @param {number} before @param {boolean} hasValues */
+    const list = (cells, before, hasValues) => make("span", {}, ...cells.flatMap((cell, at) => {
+      const text = hasValues && !isOnBus(cell) ? values.named(cell, before) : values.name(cell);
       const made = this.why(thingOf(cell), before, text.replace(/^code /, ""));
       return at ? [", ", made] : [made];
     }));
-    return [list(targets, turn + 1, isLast), sources.length ? HOW[how] : "a constant",
-      list(sources, turn, isFirst)];
+    const made = sources.length ? list(sources, turn, isKnown) : "a constant";
+    return [list(targets, turn + 1, true), made];
   }
 }

@@ -29,6 +29,8 @@ if TYPE_CHECKING:
     from .core.replies import TurnAccesses as TurnAccesses, TurnMoves as TurnMoves
     from .core.replies import WordRead as WordRead
     from .core.struck import Fate as Fate, StruckKey as StruckKey
+    from .core.turn_moves import Cell as Cell, CellKind as CellKind, DiskMoved as DiskMoved
+    from .core.turn_moves import TapeByte as TapeByte, TurnMoves as TurnMoves
 
     NezdrabError = ExploreError
     __version__: str
@@ -48,6 +50,7 @@ NAMES = {
     "replies": "BusCycle CycleKind Devices LastWrite Mode Pages Registers Turn TurnAccesses "
     "TurnMoves WordRead",
     "struck": "Fate StruckKey",
+    "turn_moves": "Cell CellKind DiskMoved TapeByte TurnMoves",
 }
 PLACES = {name: f"core.{module}" for module, names in NAMES.items() for name in names.split()}
 OTHERWISE_NAMED = {"NezdrabError": "ExploreError"}

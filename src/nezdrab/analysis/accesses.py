@@ -1,5 +1,5 @@
 """The cycles on the bus of some turns: `accesses`."""
-from typing import Iterator
+from typing import Iterable, Iterator
 
 from ..core.engine import MOST_TURNS_OF_A_TRAIL
 from ..core.errors import ExploreError
@@ -43,6 +43,30 @@ def lines_of(turn: TurnAccesses) -> Iterator[str]:
     yield from map(cycle_line, turn.cycles)
 
 
+def turns_before(explorer: Explorer, arguments: Arguments) -> range:
+    """The C turns before turn N of a line `[N [C]]`, one without C, those before the current turn
+    without N."""
+    end = arguments.decimal("turn", explorer.turn)
+    count = arguments.decimal("count", 1)
+    if not 1 <= count <= MOST_TURNS_OF_A_TRAIL:
+        raise ExploreError(f"C is 1 to {MOST_TURNS_OF_A_TRAIL}")
+    if not end:
+        raise ExploreError("no turn comes before turn 0")
+    return range(end - min(end, count), end)
+
+
+def shown(
+    explorer: Explorer, turns: range, below: Iterator[Iterable[str]]
+) -> Iterator[str]:
+    """These turns as `see` has them, each with lines below it."""
+    heads = [it.line() for it in seen(explorer, list(explorer.machine.turns(turns[0], len(turns))))]
+    yield HEADING
+    for head, lines in zip(heads, below):
+        yield head
+        yield from (f"{INDENT}{it}" for it in lines)
+    explorer.turn = turns.stop
+
+
 @command(
     "accesses [N [C]]",
     r"(<turn:decimal>( <count:decimal>)?)?",
@@ -55,16 +79,5 @@ def accesses(explorer: Explorer, arguments: Arguments) -> Iterator[str]:
     `write` or `byte`, the write of a byte, with the address on the bus and the value, and of a
     register its name; `timeout` if nothing answers. A reference that memory management aborts makes
     no cycle. Without N it is the current turn."""
-    end = arguments.decimal("turn", explorer.turn)
-    count = min(end, arguments.decimal("count", 1))
-    if not 1 <= arguments.decimal("count", 1) <= MOST_TURNS_OF_A_TRAIL:
-        raise ExploreError(f"C is 1 to {MOST_TURNS_OF_A_TRAIL}")
-    if not end:
-        raise ExploreError("no turn comes before turn 0")
-    machine, turns = explorer.machine, range(end - count, end)
-    shown = [it.line() for it in seen(explorer, list(machine.turns(turns.start, count)))]
-    yield HEADING
-    for line, turn in zip(shown, machine.accesses_of(turns)):
-        yield line
-        yield from (f"{INDENT}{it}" for it in lines_of(turn))
-    explorer.turn = end
+    turns = turns_before(explorer, arguments)
+    yield from shown(explorer, turns, map(lines_of, explorer.machine.accesses_of(turns)))

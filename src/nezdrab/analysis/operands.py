@@ -226,10 +226,13 @@ class Operands:
         return (low,), NOTHING if is_byte else (high,)
 
     def cells_at(self, place: int, is_byte: bool) -> tuple[Cells, Cells]:
+        """The same at a physical address. TPB and PPB read 0."""
         even = place & ~1
         halves: tuple[Cells, Cells] = ((even,), (even + 1,))
         if even == PS:
             halves = WHOLE_PS
+        if even in OUTPUTS:
+            halves = (NOTHING, NOTHING)
         return (halves[place & 1], NOTHING) if is_byte else halves
 
     def write(

@@ -6,7 +6,7 @@ from ..core.addressing import PC, SP
 from ..core.engine import Machine
 from ..core.hardware import OPERAND_TRAPS
 from ..core.replies import INSTRUCTION
-from .cells import ALL_CODES, C, KSP, MASK, N, NAMES, NOTHING, OF_THE_DISK, REST, USP, Cells
+from .cells import ALL_CODES, C, KSP, MASK, N, NAMES, NOTHING, OF_THE_DISK, PS, REST, USP, Cells
 from .cells import register_cells, word_cells
 from .crew import with_bar
 from .made_of import EXTENDED, KEPT, MOVED, XOR, MadeRow, made_of, plan_of
@@ -186,8 +186,10 @@ class Flows(Operands):
         return place
 
     def goes_red(self, mode: int) -> bool:
-        """Whether the sequence to this mode became the red one, by the pointers after it; if KSP is
-        0 both before and after it, by the stamp of what that one has saved."""
+        """Whether the sequence to this mode became the red one, which may halt: by the pointers
+        after it; if KSP is 0 both before and after it, by the stamp of what that one has saved."""
+        if self.after.is_halted:
+            return True
         pointers = list(self.registers)
         pointers[pointer_of(mode)] = pointers[pointer_of(mode)] - 4 & MASK
         if pointers[KSP:] != list(self.after.words[KSP:]):
@@ -195,12 +197,15 @@ class Flows(Operands):
         return self.after.words[KSP] == 0 and self.is_stamped(self.space.place(KERNEL, 2))
 
     def failing_pushes(self, mode: int) -> None:
-        """What the sequence pushed before it became the red one: the old PS, or nothing."""
+        """What the sequence pushed before it became the red one: the old PS, or nothing. KSP is lost
+        then. PS has the old PS if that was pushed there."""
         pointer = pointer_of(mode)
         first = self.registers[pointer] - 2 & MASK
         has_second = mode != KERNEL and self.after.words[pointer] == first - 2 & MASK
         for address in (first, first - 2 & MASK):
             is_below = mode == KERNEL and address < STACK_LIMIT
+            if mode != KERNEL:
+                self.step_number(pointer, -2)
             place = None if address & 1 or is_below else self.space.place(mode, address)
             if place is None:
                 return
@@ -210,7 +215,8 @@ class Flows(Operands):
             if address != first or not (has_second or self.is_stamped(place)):
                 return
             self.cycle(Access.WRITE, place)
-            self.store(place, False, WHOLE_PS, NOTHING, How.SAVED)
+            if place != PS:
+                self.store(place, False, WHOLE_PS, NOTHING, How.SAVED)
 
     def is_stamped(self, place: Optional[int]) -> bool:
         """Whether the processor wrote this word of core in the turn."""
@@ -373,7 +379,8 @@ class Flows(Operands):
             self.push((POINT, POINT), self.mode, How.SAVED)
             return
         low, high = register_cells(self.number(register))
-        self.push(((low,), (high,)), self.mode)
+        if not self.push(((low,), (high,)), self.mode):
+            self.mode = self.after.ps >> 14  # which the push has changed
         self.instant += 1
         self.set_register(self.number(register), POINT, POINT, NOTHING, How.SAVED)
 

@@ -14,6 +14,7 @@ from .program import Program, ProgramEnded, TimedOut
 from .replies import SPACES, Devices, LastWrite, Mode, Pages, Registers, Turn, TurnAccesses
 from .replies import accesses_of, listed, text_of, turns_of, words_of
 from .sessions import first_word
+from .turn_moves import TurnMoves, moves_of
 from .values import dataclass, field, replace
 
 if TYPE_CHECKING:
@@ -426,6 +427,14 @@ class Machine:
             while left:
                 found, left = self.accesses(left)
                 yield from found
+
+    def moves_of(self, turns: range) -> Iterator[TurnMoves]:
+        """What these turns make of what. The program runs them apart, as for `reads`."""
+        for part in in_parts(turns, MOST_TURNS_OF_A_TRAIL):
+            found = moves_of(self.read(f"moves {part[-1] + 1} {len(part)}"))
+            self.asked.reach(part[-1] + 1)
+            self.asked.turn = part[0]
+            yield from found
 
     def listed(self, line: str, turns: range) -> tuple[list[str], range]:
         """The lines that a search of these turns lists, which begin with a turn each, and the turns

@@ -34,6 +34,7 @@ from .session_file import made_edits
 from .struck import StruckKey, struck_keys
 from .symbols import ADDRESS, OCTAL, Symbols
 from .trials import Trials
+from .turn_moves import TurnMoves
 from .walks import Walks
 from .words import Core, Drive
 from .written_files import Output
@@ -411,6 +412,23 @@ class Machine(Trials, Walks):
             return Found(it.items, it.is_all and until == end)
 
         return going_on(found, end - turns, lambda it: it.turn.turn + 1)
+
+    def moves(
+        self, turn: SupportsIndex, count: SupportsIndex = 1
+    ) -> Iterator[TurnMoves]:
+        """What the last `count` turns before this one make of what, in their order. In the beginning
+        of the `.turn` TKB becomes the byte of a `.key`, and the `.switches` the word of an event,
+        each by its number among the turn's events; PRB becomes a byte of the `.tape`; and the
+        `.disk` moves words. Then the act makes each cell of `.made` of these cells, or of none, of
+        constants. A cell that isn't there is made of itself alone: it stays, or changes as by INC.
+        Addresses, branches and PC are no data."""
+        end, turns = operator.index(turn), operator.index(count)
+
+        def found(begin: int) -> Found[TurnMoves]:
+            until = min(begin + MOST_TURNS_OF_A_TRAIL, end) if 0 < turns <= end else end
+            return Found(self.ask(questions.moves(until, until - begin)), until == end)
+
+        return going_on(found, end - turns, lambda it: it.turn + 1)
 
     def struck(
         self, *, until: SupportsIndex, since: SupportsIndex = 0

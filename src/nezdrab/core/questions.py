@@ -23,8 +23,9 @@ from .errors import ExploreError
 from .found import Found, Transfer, readable
 from .language import STEPS, is_edit
 from .past import Event, Setup
-from .replies import Devices, LastWrite, Mode, Pages, Registers, Turn, TurnAccesses, TurnMoves
-from .replies import WordRead, accesses_of, listed, moves_of, text_of, turns_of, words_of
+from .replies import Devices, LastWrite, Mode, Pages, Registers, Turn, TurnAccesses, WordRead
+from .replies import accesses_of, listed, text_of, turns_of, words_of
+from .turn_moves import TurnMoves, moves_of
 from .values import dataclass
 
 Answer = TypeVar("Answer")
@@ -83,7 +84,7 @@ def count_fault(line: str, reply: str) -> str:
     word, turn, *_, count = line.split()
     if word in ("mem", "dsk") and int(count) == 0:
         return "the count is 1 or more"
-    if word in ("trail", "accesses") and not 0 < int(count) <= int(turn):
+    if word in ("trail", "accesses", "moves") and not 0 < int(count) <= int(turn):
         return "the count is 1 or more, and no more than the turn"
     return ""
 
@@ -207,7 +208,7 @@ def accesses(turn: SupportsIndex, count: SupportsIndex = 1) -> Question[Found[Tu
 
 
 def moves(turn: SupportsIndex, count: SupportsIndex = 1) -> Question[list[TurnMoves]]:
-    """What the last 1 to 64 turns before this one made of what, in their order."""
+    """What the last 1 to 64 turns before this one make of what. Machine.moves takes any count."""
     return one(f"moves {decimal(turn)} {decimal(count)}", moves_of)
 
 

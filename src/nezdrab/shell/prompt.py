@@ -386,8 +386,8 @@ class Prompt(Interpreter):
 
 def is_own(word: str, rest: str) -> bool:
     """Whether a line is a command of explore. A line of the language may begin with its word. The
-    command `accesses` has the words of the line, and shows more."""
-    if word == "accesses":
+    commands `accesses` and `moves` have the words of the line, and show more."""
+    if word in ("accesses", "moves"):
         return True
     if word in SEARCHES and is_decimal(rest[:1]):
         return False
