@@ -147,8 +147,22 @@ export class Flows extends Operands {
       await this.red();
       return;
     }
-    await this.push(WHOLE_PS, mode, "saved");
-    await this.push(POINTS, mode, "saved");
+    await this.save(mode, place);
+  }
+
+  /** Pushes the old PS and PC, and loads the new PS, which was read before that: if a push is onto
+      it, at the instant of the push.
+      @param {number} mode @param {number} place */
+  async save(mode, place) {
+    let isOver = false;
+    for (const values of [WHOLE_PS, POINTS]) {
+      await this.push(values, mode, "saved");
+      if (await this.space.place(mode, this.registers[pointerOf(mode)]) !== place) continue;
+      this.loadPs(place);
+      isOver = true;
+    }
+    if (isOver) return;
+    this.instant += 1;
     this.loadPs(place);
   }
 
@@ -172,7 +186,7 @@ export class Flows extends Operands {
   }
 
   /** What the sequence pushed before it became the red one: the old PS, or nothing. KSP is lost
-      then. PS has the old PS if that was pushed there.
+      then. If PS was pushed onto itself, it is as it was.
       @param {number} mode */
   async failingPushes(mode) {
     const pointer = pointerOf(mode), first = this.registers[pointer] - 2 & MASK;
@@ -198,7 +212,6 @@ export class Flows extends Operands {
 
   /** @param {number} place */
   loadPs(place) {
-    this.instant += 1;
     const [low, high] = wordCells(place);
     for (const cell of ALL_CODES) this.move(cell, [low], "copy");
     this.move(REST, [low, high, REST], "copy");
@@ -213,6 +226,7 @@ export class Flows extends Operands {
     if (await this.vectorWord(BOTTOM) === null) return;
     const place = await this.vectorWord(BOTTOM + 2);
     if (place !== null && await this.savesBelow() && this.after.words[KSP] === 0) {
+      this.instant += 1;
       this.loadPs(place);
     }
   }

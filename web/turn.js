@@ -1,5 +1,5 @@
-// The panel of what the cursor's turn does: its events and cycles on the bus, as the line `accesses`
-// has them, and its moves of data, as `moves` has them. What a row names can be asked why it is so.
+// The panel of what the cursor's turn does: its events and cycles on the bus, as `accesses` has
+// them, and its moves of data, as `moves` has them. What a row names can be asked why it is so.
 
 import {
   REGISTER_NAMES, cellNamed, coreWord, firstOf, isCode, isCore, isOfDrive, isOnBus, isRegister,

@@ -139,7 +139,7 @@ def last_of(kind: str, events: Sequence[Event]) -> Optional[int]:
 
 
 def disk_of(moved: Optional[DiskMove]) -> Optional[DiskMoved]:
-    if moved is None:
+    if moved is None or not moved.count:
         return None
     function = "read" if moved.is_read else "write"
     return DiskMoved(function, moved.drive, moved.first, moved.core, moved.count, moved.stays)
@@ -154,3 +154,13 @@ def wide_flows(machine: Machine, turns: range) -> Iterator[Flow]:
             return
         except NotFollowed:
             turns = range(flows.flowing.turn + 1, turns.stop)
+
+
+def compared(machine: Machine, turns: range) -> Iterator[tuple[int, list[str]]]:
+    """These turns, except those that the rules don't follow, each with how its moves differ from
+    what the rules say."""
+    flows = {it.turn: it for it in wide_flows(machine, turns)}
+    for told in machine.moves_of(turns):
+        if told.turn in flows:
+            events = [it for it in machine.script if it.turn == told.turn]
+            yield told.turn, list(differences(flows[told.turn], told, events))

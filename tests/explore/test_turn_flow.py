@@ -1,5 +1,6 @@
-"""What turns write, by the rules of data, against the stamps of core: in stored systems, and in
-programs of random words with traps, mapping and stacks in bad places."""
+"""What turns write, by the rules of data, against the stamps of core, and what it is made of,
+against the program's `moves`: in stored systems, and in programs of random words with traps,
+mapping and stacks in bad places."""
 import random
 from typing import Iterator
 
@@ -10,8 +11,11 @@ from nezdrab.core.engine import MOST_WORDS, Machine, Start
 from nezdrab.core.errors import ExploreError
 from nezdrab.core.hardware import OPERAND_TRAPS
 from nezdrab.core.replies import INSTRUCTION
+from nezdrab.core.turn_moves import grouped, in_words
+from tests.checks.wide_flows import compared, made_by
 
 from .explore_case import BUILT
+from .machines import OnMachine
 from .systems import KEYS, LEDGER, OfSystems
 
 VECTORS = (0o4, 0o10, 0o14, 0o20, 0o30, 0o34, 0o60, 0o64, 0o250)
@@ -161,3 +165,69 @@ class Writes(OfSystems):
         single = list(Flows(machine, *(range(it, it + 1) for it in turns[::3])))
         self.assertEqual(single, together[::3])
         self.assertTrue(any(it.transfer for it in single))
+
+    def compare_moves(self, machine: Machine, turns: range) -> int:
+        """How many turns were compared."""
+        count = 0
+        for turn, differences in compared(machine, turns):
+            self.assertEqual(differences, [], turn)
+            count += 1
+        return count
+
+    def test_moves_of_stored_systems(self) -> None:
+        turns = self.compare_moves(self.machine(LEDGER), range(126_900, 129_000))
+        self.assertEqual(turns, 2_100)
+        self.assertEqual(self.compare_moves(self.machine(KEYS), range(0, 3_000)), 3_000)
+
+    def test_moves_of_programs_of_random_words(self) -> None:
+        machines = self.random_programs(range(80, 140))
+        turns = sum(self.compare_moves(it, range(0, TURNS)) for it in machines)
+        self.assertGreater(turns, 4_700)
+
+
+TO_USER = "12706 700 12737 30000 177776 12746 {usp} 6606 3"  # USP is this, and then comes BPT
+IN_USER = ("core 14 2000", "core 16 140000")
+IN_RED = [
+    "USP.1 of USP",
+    "KSP, core 000002.1, core 000000 of nothing",
+    "core 000002.0 of codes N Z V C",
+    "codes N Z V C of core 000006.0",
+]
+# Instructions from 1000 on, other words, and what explore says of the last instruction.
+CORNERS: tuple[tuple[str, tuple[str, ...], list[str]], ...] = (
+    ("13700 177566", (), ["R0, codes N Z V of nothing"]),  # TPB reads 0
+    (
+        "4637 2000",  # a push onto PS: SP is USP then
+        (),
+        ["KSP.1 of KSP", "codes N Z V C of KSP.0", "USP of nothing"],
+    ),
+    (
+        TO_USER.format(usp="20"),  # a push onto the vector
+        IN_USER,
+        ["USP.1 of USP", "core 000016.0 of codes N Z V C"]
+        + ["core 000016.1, core 000014 of nothing", "codes N Z V C of core 000016.0"],
+    ),
+    (TO_USER.format(usp="21"), IN_USER, IN_RED),  # a push at an odd address
+    (TO_USER.format(usp="0"), IN_USER, IN_RED),  # one onto PS, and one that times out
+    # In `moves` N is made of the whole operand, PRB of it and of PRB; and each code of all codes.
+    (
+        "52737 1 177550",
+        (),
+        ["code N of core 001002.1", "code Z of core 001002", "code V of nothing"],
+    ),
+    ("105037 177777", (), []),
+)
+
+
+class Corners(OnMachine):
+    def test_what_they_make(self) -> None:
+        for words, edits, made in CORNERS:
+            lines = [f"core {0o1000 + 2 * at:o} {it}" for at, it in enumerate(words.split())]
+            machine = self.explorer("", [*lines, *edits]).machine
+            with self.subTest(words):
+                turns = range(0, 5 if edits else 1)
+                self.assertEqual(list(compared(machine, turns)), [(it, []) for it in turns])
+                (flow,) = Flows(machine, turns[-1:])
+                found = {it: tuple(sorted(cells, key=str)) for it, cells in made_by(flow).items()}
+                shown = [f"{in_words(it)} of {in_words(cells)}" for it, cells in grouped(found)]
+                self.assertEqual(shown, made)

@@ -1,25 +1,26 @@
 """What some turns make of what: `moves`."""
-from typing import Iterator
+from collections import defaultdict
+from typing import Iterator, Sequence
 
-from ..core.in_words import counted
+from ..core.found import Transfer
+from ..core.past import Event
 from ..core.turn_moves import TurnMoves, grouped, in_words
-from .accesses import shown, turns_before
+from .accesses import function_line, shown, turns_before
 from .command import Arguments, command
 from .explorer import Explorer
 
 
-def lines_of(turn: TurnMoves) -> Iterator[str]:
-    """What a turn moves: in its beginning, and then in its act."""
-    events = {"TKB": turn.key, "switches": turn.switches}
-    yield from (f"{it} of event {at}" for it, at in events.items() if at is not None)
+def lines_of(turn: TurnMoves, events: Sequence[Event]) -> Iterator[str]:
+    """What a turn with these events moves: in its beginning, and then in its act."""
+    for name, number in (("TKB", turn.key), ("switches", turn.switches)):
+        if number is not None:
+            yield f"{name} of event {events[number].number}, {events[number].explained()}"
     if turn.tape is not None:
-        number, is_at_end = turn.tape
-        yield f"PRB of byte {number} of the tape{', which has ended' * is_at_end}"
+        yield f"PRB of byte {turn.tape.number} of the tape{', which ends' * turn.tape.is_at_end}"
     if turn.disk is not None:
         it = turn.disk
-        words = f"{counted(it.count, 'word')}, word {it.index:07o} of drive {it.drive}"
-        place = " alone" * it.stays
-        yield f"disk: {it.function} of {words} and core {it.address:06o}{place}"
+        moved = it.function, it.drive, it.index, it.address, it.count
+        yield f"{function_line(Transfer(turn.turn, None, *moved, 0))}{', in place' * it.stays}"
     for cells, sources in grouped(turn.made):
         yield f"{in_words(cells)} of {in_words(sources)}"
 
@@ -34,9 +35,12 @@ def moves(explorer: Explorer, arguments: Arguments) -> Iterator[str]:
     and below it what it makes of what: first what its events, the reader and the disk bring, and
     then the cells that its act makes, each of the cells as they were when the act began, or `of
     nothing`. A cell is a half of a word, `.0` the low one, a condition code, or what a device
-    holds. One that isn't shown is made of itself alone: it stays, or changes as by INC. Addresses,
-    branches and PC are no data. This is a reply of the program, which is proved. `why` goes back
-    over many turns by explore's own rules, which are compared with it turn by turn. Without N it is
-    the current turn."""
-    turns = turns_before(explorer, arguments)
-    yield from shown(explorer, turns, map(lines_of, explorer.machine.moves_of(turns)))
+    holds; a word without a half has both. One that isn't shown is made of itself alone: it stays,
+    or changes as by INC. Addresses, branches and PC are no data. This is a reply of the program,
+    which is proved. `why` goes back over many turns by explore's own rules: the tests compare them
+    with this, turn by turn. Without N it is the current turn."""
+    turns, events = turns_before(explorer, arguments), defaultdict[int, list[Event]](list)
+    for it in explorer.machine.script:
+        events[it.turn].append(it)
+    moved = explorer.machine.moves_of(turns)
+    yield from shown(explorer, turns, (lines_of(it, events[it.turn]) for it in moved))

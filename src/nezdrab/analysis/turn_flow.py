@@ -170,9 +170,20 @@ class Flows(Operands):
             self.failing_pushes(mode)
             self.red()
             return
-        self.push(WHOLE_PS, mode, How.SAVED)
-        self.push((POINT, POINT), mode, How.SAVED)
-        self.load_ps(place)
+        self.save(mode, place)
+
+    def save(self, mode: int, place: int) -> None:
+        """Pushes the old PS and PC, and loads the new PS, which was read before that: if a push is
+        onto it, at the instant of the push."""
+        is_over = False
+        for values in (WHOLE_PS, (POINT, POINT)):
+            self.push(values, mode, How.SAVED)
+            if self.cycles[-1].place == place:
+                self.load_ps(place)
+                is_over = True
+        if not is_over:
+            self.instant += 1
+            self.load_ps(place)
 
     def vector_word(self, address: int) -> Optional[int]:
         """The place of a word of a vector, which is read, or None if it can't be."""
@@ -197,8 +208,8 @@ class Flows(Operands):
         return self.after.words[KSP] == 0 and self.is_stamped(self.space.place(KERNEL, 2))
 
     def failing_pushes(self, mode: int) -> None:
-        """What the sequence pushed before it became the red one: the old PS, or nothing. KSP is lost
-        then. PS has the old PS if that was pushed there."""
+        """What the sequence pushed before it became the red one: the old PS, or nothing. KSP is
+        lost then. If PS was pushed onto itself, it is as it was."""
         pointer = pointer_of(mode)
         first = self.registers[pointer] - 2 & MASK
         has_second = mode != KERNEL and self.after.words[pointer] == first - 2 & MASK
@@ -226,7 +237,6 @@ class Flows(Operands):
         return last is not None and last.turn == self.flowing.turn and last.writer == "cpu"
 
     def load_ps(self, place: int) -> None:
-        self.instant += 1
         low, high = word_cells(place)
         for cell in ALL_CODES:
             self.move(cell, (low,), NOTHING, How.COPY)
@@ -242,6 +252,7 @@ class Flows(Operands):
             return
         place = self.vector_word(BOTTOM + 2)
         if place is not None and self.saves_below() and self.after.words[KSP] == 0:
+            self.instant += 1
             self.load_ps(place)
 
     def saves_below(self) -> bool:

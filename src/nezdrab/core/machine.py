@@ -416,12 +416,12 @@ class Machine(Trials, Walks):
     def moves(
         self, turn: SupportsIndex, count: SupportsIndex = 1
     ) -> Iterator[TurnMoves]:
-        """What the last `count` turns before this one make of what, in their order. In the beginning
-        of the `.turn` TKB becomes the byte of a `.key`, and the `.switches` the word of an event,
-        each by its number among the turn's events; PRB becomes a byte of the `.tape`; and the
-        `.disk` moves words. Then the act makes each cell of `.made` of these cells, or of none, of
-        constants. A cell that isn't there is made of itself alone: it stays, or changes as by INC.
-        Addresses, branches and PC are no data."""
+        """What the last `count` turns before this one make of what, in their order. In the
+        beginning of the `.turn` TKB becomes the byte of a `.key`, and the `.switches` the word of
+        an event, each by its number among the turn's events, from 0 on; PRB becomes a byte of the
+        `.tape`; and the `.disk` moves words. Then the act makes each cell of `.made` of these
+        cells, or of none, of constants. A cell that isn't there is made of itself alone: it stays,
+        or changes as by INC. Addresses, branches and PC are no data."""
         end, turns = operator.index(turn), operator.index(count)
 
         def found(begin: int) -> Found[TurnMoves]:

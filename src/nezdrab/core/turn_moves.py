@@ -1,6 +1,6 @@
 """What turns make of what, by the line `moves`."""
 from enum import Enum
-from typing import Iterable, Iterator, NamedTuple, Optional
+from typing import Iterator, NamedTuple, Optional, Sequence
 
 from .replies import hash_of
 from .values import dataclass
@@ -65,7 +65,8 @@ class Cell(NamedTuple):
         return cls(CellKind.REGISTER if is_register else CellKind.STEP, word, 0, part)
 
 
-class DiskMoved(NamedTuple):
+@dataclass(frozen=True)
+class DiskMoved:
     """What the disk moves in the beginning of a turn: its function, the drive, the first word of
     the drive, the address of the first word of core, and how many words. If the bus address
     `stays`, each word goes to that address, or comes from it."""
@@ -97,8 +98,9 @@ class TurnMoves:
     """What a turn makes of what. In its beginning TKB becomes the byte of a `key`, and the
     `switches` the word of an event, each by its number among the turn's events, from 0 on; PRB
     becomes a byte of the `tape`; and the `disk` moves words. Each is None if it doesn't. After that
-    the act makes each cell of `made` of these cells, as they were when the act began, or of none: of
-    constants. A cell that isn't there is made of itself alone: it stays, or changes as by INC."""
+    the act makes each cell of `made` of these cells, as they were when the act began, or of none,
+    of constants. A cell that isn't there is made of itself alone: it stays, or changes as by
+    INC."""
 
     turn: int
     key: Optional[int]
@@ -154,6 +156,19 @@ def grouped(made: dict[Cell, tuple[Cell, ...]]) -> Iterator[tuple[list[Cell], tu
         yield cells, made[cells[0]]
 
 
-def in_words(cells: Iterable[Cell]) -> str:
-    """These cells, or `nothing`."""
-    return ", ".join(map(str, cells)) or NOTHING
+def in_words(cells: Sequence[Cell]) -> str:
+    """These cells, or `nothing`. A word of which both halves are there is named without a half."""
+    all_of = set(cells)
+    words = [
+        it._replace(half=None)
+        if it.half is not None and it._replace(half=1 - it.half) in all_of
+        else it
+        for it in cells
+        if it.kind is not CellKind.CODE
+    ]
+    names = list(dict.fromkeys(map(str, words)))
+    named = {it.name for it in cells if it.kind is CellKind.CODE}
+    if named:
+        codes = " ".join(it for it in CODES if it in named)
+        names.append(f"code{'s' * (len(named) > 1)} {codes}")
+    return ", ".join(names) or NOTHING

@@ -26,8 +26,8 @@ TOPICS = {
     ),
     ASKING: Topic(
         "what a turn did, what the machine was",
-        ("show", "see", "accesses", "branches", "calls", "screen", "events", "compare", "follow")
-        + ("lost", "why", "profile", "extremes"),
+        ("show", "see", "accesses", "moves", "branches", "calls", "screen", "events", "compare")
+        + ("follow", "lost", "why", "profile", "extremes"),
         "Lines of the session language ask too: regs, mem, dsk, text, last, trail, devices, pages. "
         "See help session.",
     ),
@@ -39,7 +39,7 @@ TOPICS = {
     ),
     "causes": Topic(
         "what a value is made of, what became of an event, which events matter",
-        ("why", "follow", "lost", "changes", "readers", "accesses", "matters", "reduce"),
+        ("why", "moves", "follow", "lost", "changes", "readers", "accesses", "matters", "reduce"),
     ),
     "edits": Topic(
         "other programs, keys and events, and back",
