@@ -180,7 +180,7 @@ export class TurnPanel {
       const made = this.why(thingOf(cell), before, text.replace(/^code /, ""));
       return at ? [", ", made] : [made];
     }));
-    const made = sources.length ? list(sources, turn, isKnown) : "a constant";
+    const made = sources.length ? list(sources, turn, isKnown) : "no data";
     return [list(targets, turn + 1, true), made];
   }
 }

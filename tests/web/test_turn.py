@@ -1,10 +1,9 @@
 """What the cursor's turn does: its cycles beside the program's `accesses`, its moves of data beside
-explore's flows; what its links ask; and the way to it by keys."""
+its `moves`; what its links ask; and the way to it by keys."""
 import re
 from typing import ClassVar
 
-from nezdrab.analysis.cells import ALL_CODES, REST, name_of
-from nezdrab.analysis.turn_flow import Flows
+from nezdrab.core.turn_moves import CODES, Cell
 
 from .explored import Explored
 from .page_case import OpenCase, ledger_lines, replies_of
@@ -16,6 +15,16 @@ TURNS = (126_967, 127_131, 127_163, 127_164, 127_299, 127_162, 127_415, 127_420,
 ROWS = """(name => [...document.querySelectorAll(`#${name} tbody tr`)].map(row =>
   [...row.cells].map(it => it.textContent)))"""
 VALUE = re.compile(r" ([0-7]{6}|[01])$")
+# What the beginnings of turns move.
+BEGUN = {
+    126_967: [["TKB", "key 66 '6'"]],
+    127_636: [["word 0000000 of drive 0, 256 words", "core 040000"]],
+}
+
+
+def word_of(cell: Cell) -> str:
+    """The name of the word that a cell is in, or of a code."""
+    return str(cell._replace(half=None)).removeprefix("code ")
 
 
 class Turn(OpenCase):
@@ -59,30 +68,25 @@ class Turn(OpenCase):
                 else:
                     self.assertEqual(what, kind)
 
-    def named(self, cells: set[int]) -> set[str]:
-        """The names of words, of which PS has its codes in it."""
-        left = cells - set(ALL_CODES) if REST in cells else cells
-        names = {name_of(it).removeprefix("code ") for it in left}
-        return {"TPS" if it == "777564" else it for it in names}
+    def moves(self, turn: int) -> list[list[set[str]]]:
+        """What is made of what, by the program: each word, or the codes."""
+        (told,) = self.explored.machine.moves_of(range(turn, turn + 1))
+        found: dict[str, list[set[str]]] = {}
+        for cell, sources in told.made.items():
+            name = word_of(cell)
+            to, of = found.setdefault("codes" if name in CODES else name, [set(), set()])
+            to.add(name)
+            of.update(map(word_of, sources))
+        return [[to, of or {"no data"}] for to, of in found.values()]
 
-    def moves(self, turn: int) -> list[tuple[set[str], set[str]]]:
-        """What is made of what, by explore: of each word, or of the codes, at one instant."""
-        (flow,) = Flows(self.explored.machine, range(turn, turn + 1))
-        found: dict[tuple[int, str], tuple[set[int], set[int]]] = {}
-        for it in flow.moves:
-            is_code = it.cell in (*ALL_CODES, REST)
-            group = it.instant, "codes" if is_code else name_of(it.cell)
-            targets, sources = found.setdefault(group, (set(), set()))
-            targets.add(it.cell)
-            sources.update(it.values)
-        return [(self.named(to), self.named(of)) for to, of in found.values()]
-
-    def test_moves_are_those_of_explore(self) -> None:
+    def test_moves_are_those_of_the_program(self) -> None:
         for turn in TURNS:
             self.go(turn)
+            rows, begun = self.rows("moves"), BEGUN.get(turn, [])
+            self.assertEqual(rows[: len(begun)], begun)
             shown = [
-                tuple({VALUE.sub("", it) for it in cell.split(", ") if it} for cell in (to, of))
-                for to, _, of in self.rows("moves")
+                [{VALUE.sub("", it) for it in cell.split(", ")} for cell in row]
+                for row in rows[len(begun) :]
             ]
             self.assertEqual(shown, self.moves(turn), turn)
 
@@ -91,14 +95,14 @@ class Turn(OpenCase):
         self.go(turn)
         regs, word = replies_of([*PAST, f"regs {turn}", f"mem {turn + 1} 772 1"])[-2:]
         stored = f"core 000772 {word.split()[1]}"
-        self.assertIn([stored, "copied from", f"R0 {regs.split()[1]}"], self.rows("moves"))
+        self.assertIn([stored, f"R0 {regs.split()[1]}"], self.rows("moves"))
 
     def test_each_word_can_be_asked(self) -> None:
         """A value that was moved is asked after the turn, its source before the turn."""
         turn = 127_163
-        for cell, name, before in ((1, "core 000772", turn + 1), (3, "R0", turn)):
+        for cell, name, before in ((1, "core 000772", turn + 1), (2, "R0", turn)):
             self.go(turn)
-            self.browser.click(f"#moves tr:nth-child(2) td:nth-child({cell}) .link")
+            self.browser.click(f"#moves tbody tr:nth-child(1) td:nth-child({cell}) .link")
             self.wait_text("#why-turn", f"before turn {before}")
             asked = self.browser.value("document.querySelector('#why-word').value")
             self.assertEqual(asked, name)
