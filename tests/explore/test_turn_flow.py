@@ -2,7 +2,7 @@
 against the program's `moves`: in stored systems, and in programs of random words with traps,
 mapping and stacks in bad places."""
 import random
-from typing import Iterator
+from typing import Iterable, Iterator
 
 from nezdrab.analysis.cells import is_core
 from nezdrab.analysis.turn_cycles import trap_of
@@ -209,6 +209,12 @@ CORNERS: tuple[tuple[str, tuple[str, ...], list[str]], ...] = (
     ),
     (TO_USER.format(usp="21"), IN_USER, IN_RED),  # a push at an odd address
     (TO_USER.format(usp="0"), IN_USER, IN_RED),  # one onto PS, and one that times out
+    # a red sequence that halts at page 0, with KSP as after two pushes
+    (
+        "240 12706 10 12737 77402 172300 12737 1 177572 3",
+        ("core 14 2000",),
+        ["KSP of nothing"],
+    ),
     # In `moves` N is made of the whole operand, PRB of it and of PRB; and each code of all codes.
     (
         "52737 1 177550",
@@ -219,13 +225,20 @@ CORNERS: tuple[tuple[str, tuple[str, ...], list[str]], ...] = (
 )
 
 
+TURNS_OF_A_CORNER = 5
+
+
+def corner(words: str, edits: Iterable[str]) -> list[str]:
+    """The lines of such a program."""
+    return [*(f"core {0o1000 + 2 * at:o} {it}" for at, it in enumerate(words.split())), *edits]
+
+
 class Corners(OnMachine):
     def test_what_they_make(self) -> None:
         for words, edits, made in CORNERS:
-            lines = [f"core {0o1000 + 2 * at:o} {it}" for at, it in enumerate(words.split())]
-            machine = self.explorer("", [*lines, *edits]).machine
+            machine = self.explorer("", corner(words, edits)).machine
             with self.subTest(words):
-                turns = range(0, 5 if edits else 1)
+                turns = range(0, TURNS_OF_A_CORNER if edits else 1)
                 self.assertEqual(list(compared(machine, turns)), [(it, []) for it in turns])
                 (flow,) = Flows(machine, turns[-1:])
                 found = {it: tuple(sorted(cells, key=str)) for it, cells in made_by(flow).items()}

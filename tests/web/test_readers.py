@@ -53,12 +53,13 @@ def visible(text: str) -> str:
 class ReadersCase(counted.InBrowser):
     maxDiff = 4000
     server: http.server.ThreadingHTTPServer
+    handler = Handler
     path: Path
 
     @classmethod
     def setUpClass(cls) -> None:
         browser = the_browser()
-        cls.server = http.server.ThreadingHTTPServer(("127.0.0.1", 0), Handler)
+        cls.server = http.server.ThreadingHTTPServer(("127.0.0.1", 0), cls.handler)
         cls.addClassCleanup(cls.server.server_close)
         cls.addClassCleanup(cls.server.shutdown)
         threading.Thread(target=cls.server.serve_forever, daemon=True).start()
