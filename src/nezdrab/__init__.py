@@ -26,11 +26,10 @@ if TYPE_CHECKING:
     from .core.replies import BusCycle as BusCycle, CycleKind as CycleKind
     from .core.replies import Devices as Devices, LastWrite as LastWrite, Mode as Mode
     from .core.replies import Pages as Pages, Registers as Registers, Turn as Turn
-    from .core.replies import TurnAccesses as TurnAccesses, TurnMoves as TurnMoves
-    from .core.replies import WordRead as WordRead
+    from .core.replies import TurnAccesses as TurnAccesses, WordRead as WordRead
     from .core.struck import Fate as Fate, StruckKey as StruckKey
-    from .core.turn_moves import Cell as Cell, CellKind as CellKind, DiskMoved as DiskMoved
-    from .core.turn_moves import TapeByte as TapeByte, TurnMoves as TurnMoves
+    from .core.moves_of_turns import Cell as Cell, CellKind as CellKind, DiskMoved as DiskMoved
+    from .core.moves_of_turns import TapeByte as TapeByte, TurnMoves as TurnMoves
 
     NezdrabError = ExploreError
     __version__: str
@@ -48,9 +47,9 @@ NAMES = {
     "program": "ProgramEnded TimedOut",
     "questions": "Question",
     "replies": "BusCycle CycleKind Devices LastWrite Mode Pages Registers Turn TurnAccesses "
-    "TurnMoves WordRead",
+    "WordRead",
     "struck": "Fate StruckKey",
-    "turn_moves": "Cell CellKind DiskMoved TapeByte TurnMoves",
+    "moves_of_turns": "Cell CellKind DiskMoved TapeByte TurnMoves",
 }
 PLACES = {name: f"core.{module}" for module, names in NAMES.items() for name in names.split()}
 OTHERWISE_NAMED = {"NezdrabError": "ExploreError"}

@@ -4,8 +4,8 @@ without ending; if none is given, some that have what each device and mapping do
 and search it takes the edits, asks what its turns are, at most 600, and asks lines of each search
 after the session's own lines, with arguments that chance picks from a fixed seed. It computes
 addresses by the rules of memory management, traps by registers and the vectors' words, `moves` by
-explore's rules of data, and `fades` by a second run. Of `moves` it compares of which words an act
-makes which words: neither halves nor the order.
+explore's rules of data, and `fades` by a second run. Of `moves` each turn is asked; which cells an
+act makes of which is compared, not in which order (wide_flows.py says what both mean).
 
 Core is as small as the patches allow, and the stride is 32 if LIST doesn't say otherwise. Of a
 difference it shows the session, the line, the reply, and the reply that was computed. If it can't
@@ -22,7 +22,7 @@ from tests.checks.computed import computed
 from tests.checks.fading import right_fades
 from tests.checks.picked import Picker
 from tests.checks.stored_systems import NoReplies, System
-from tests.checks.turn_moves import in_words
+from tests.checks.turn_moves import in_order
 
 MOST_TURNS = 600
 FURTHER_TURNS = 8
@@ -118,7 +118,7 @@ class Compared:
             for line, reply in zip(lines, searched.replies_to(lines)[1]):
                 may = wanted.get(line) or right_fades(system, line, reply)
                 self.undecided += len(may) > 1
-                told = in_words(reply) if line.startswith("moves ") else reply
+                told = in_order(reply) if line.startswith("moves ") else reply
                 self.reply(one.name, line, told, may)
 
     def forms_left(self, lines: list[str]) -> None:

@@ -1,7 +1,7 @@
 """Which lines lines.py asks of a stored system: many of each kind, with arguments that chance
 picks from a fixed seed, and with those at the edges."""
 import random
-from typing import Collection, Sequence, TypeVar
+from typing import Sequence, TypeVar
 
 from tests.checks.computed import OPERATORS
 from tests.checks.stored_systems import WORDS_OF_PAGE, System
@@ -219,22 +219,25 @@ class Picker:
 
     def accesses(self) -> list[str]:
         """Of turns, each of whose cycles explore's rules tell."""
-        return self.of_last_turns("accesses", cycles_of(self.system))
-
-    def moves(self) -> list[str]:
-        """Of turns that explore's rules follow; of none if the tape isn't followed from turn 0."""
-        known = {} if self.first and self.system.followed.tape else acts_of(self.system)
-        return self.of_last_turns("moves", known)
-
-    def of_last_turns(self, command: str, known: Collection[int]) -> list[str]:
-        """Lines of a command that takes a turn and a count, of turns that are known."""
+        known = cycles_of(self.system)
         lines = []
         for turn in self.some(sorted(known), 12):
             first = turn
             while first in known and turn - first < MOST_TURNS:
                 first -= 1
-            lines += [f"{command} {turn + 1} {it}" for it in (1, turn - first)]
-        return [*lines, f"{command} {self.turn()} 65"]
+            lines += [f"accesses {turn + 1} {it}" for it in (1, turn - first)]
+        return [*lines, f"accesses {self.turn()} 65"]
+
+    def moves(self) -> list[str]:
+        """Of each turn that explore's rules follow; of none if the tape isn't followed from turn
+        0."""
+        known = {} if self.first and self.system.followed.tape else acts_of(self.system)
+        lines, begin = [], self.first
+        for turn in range(self.first, self.last + 1):
+            if turn - begin == MOST_TURNS or turn not in known:
+                lines += [f"moves {turn} {turn - begin}"] * (turn > begin)
+                begin = turn if turn in known else turn + 1
+        return [*lines, f"moves {self.turn()} 65"]
 
     def changes(self) -> list[str]:
         on, whole = self.system.drive_word, f"{self.first} {self.last}"

@@ -24,7 +24,7 @@ from nezdrab.analysis.turn_cycles import NotFollowed
 from nezdrab.analysis.turn_flow import Flows
 from nezdrab.core.engine import Machine
 from nezdrab.core.past import Event
-from nezdrab.core.turn_moves import Cell, CellKind, DiskMoved, TurnMoves, in_words
+from nezdrab.core.moves_of_turns import Cell, CellKind, DiskMoved, TurnMoves, in_words
 from nezdrab.core.values import replace
 
 PRS = 0o777550

@@ -11,7 +11,7 @@ from nezdrab.core.engine import MOST_WORDS, Machine, Start
 from nezdrab.core.errors import ExploreError
 from nezdrab.core.hardware import OPERAND_TRAPS
 from nezdrab.core.replies import INSTRUCTION
-from nezdrab.core.turn_moves import grouped, in_words
+from nezdrab.core.moves_of_turns import grouped, in_words
 from tests.checks.wide_flows import compared, made_by
 
 from .explore_case import BUILT

@@ -247,11 +247,6 @@ class Listed(Case):
         for count in (0, 4, -1):
             with self.assertRaises(Refused):
                 list(machine.accesses(3, count))
-        moves = machine.ask(questions.moves(3, 2))
-        self.assertEqual([(it.turn, it.moved) for it in moves], [(1, []), (2, [])])
-        self.assertEqual(moves[0].made, {})
-        both = ("core 002000.0", "core 002000.1")
-        self.assertEqual(moves[1].made["core 002000.1"], both)
         machine.core[0o4000] = [5] * 600
         found = list(machine.find(0, 0o4000, 0o6000, 5))
         self.assertEqual(found, list(range(0o4000, 0o6002, 2)))

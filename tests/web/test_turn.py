@@ -3,7 +3,7 @@ its `moves`; what its links ask; and the way to it by keys."""
 import re
 from typing import ClassVar
 
-from nezdrab.core.turn_moves import CODES, Cell
+from nezdrab.core.moves_of_turns import CODES, Cell
 
 from .explored import Explored
 from .page_case import OpenCase, ledger_lines, replies_of

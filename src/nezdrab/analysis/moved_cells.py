@@ -4,7 +4,7 @@ from typing import Iterator, Sequence
 
 from ..core.found import Transfer
 from ..core.past import Event
-from ..core.turn_moves import TurnMoves, grouped, in_words
+from ..core.moves_of_turns import TurnMoves, grouped, in_words
 from .accesses import function_line, shown, turns_before
 from .command import Arguments, command
 from .explorer import Explorer

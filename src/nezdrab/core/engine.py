@@ -14,7 +14,7 @@ from .program import Program, ProgramEnded, TimedOut
 from .replies import SPACES, Devices, LastWrite, Mode, Pages, Registers, Turn, TurnAccesses
 from .replies import accesses_of, listed, text_of, turns_of, words_of
 from .sessions import first_word
-from .turn_moves import TurnMoves, moves_of
+from .moves_of_turns import TurnMoves, moves_of
 from .values import dataclass, field, replace
 
 if TYPE_CHECKING:

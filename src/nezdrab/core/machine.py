@@ -34,7 +34,7 @@ from .session_file import made_edits
 from .struck import StruckKey, struck_keys
 from .symbols import ADDRESS, OCTAL, Symbols
 from .trials import Trials
-from .turn_moves import TurnMoves
+from .moves_of_turns import TurnMoves
 from .walks import Walks
 from .words import Core, Drive
 from .written_files import Output

@@ -25,7 +25,7 @@ from .language import STEPS, is_edit
 from .past import Event, Setup
 from .replies import Devices, LastWrite, Mode, Pages, Registers, Turn, TurnAccesses, WordRead
 from .replies import accesses_of, listed, text_of, turns_of, words_of
-from .turn_moves import TurnMoves, moves_of
+from .moves_of_turns import TurnMoves, moves_of
 from .values import dataclass
 
 Answer = TypeVar("Answer")

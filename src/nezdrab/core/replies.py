@@ -267,7 +267,6 @@ class CycleKind(Enum):
 
 
 CYCLES, TIMEOUT = {it.value: it for it in CycleKind}, "timeout"
-NOTHING, FROM_OUTSIDE = "nothing", ("event ", "tape ")  # in a reply of `moves`
 
 
 @dataclass(frozen=True)
@@ -337,42 +336,6 @@ def accesses_of(reply: str) -> tuple[list[TurnAccesses], bool]:
             parts.append([])
         parts[-1].append(line)
     return [TurnAccesses.of(it) for it in parts], is_all
-
-
-@dataclass(frozen=True)
-class TurnMoves:
-    """What a turn made of what, by the reply of `moves`: the number of the `turn`; what its
-    beginning `moved`, as lines; and, of each cell that its act `made`, the cells, as the act began,
-    that it is made of: none, if it is made of constants and addresses alone."""
-
-    turn: int
-    moved: list[str]
-    made: dict[str, tuple[str, ...]]
-
-    __hash__ = hash_of
-
-    @classmethod
-    def of(cls, lines: list[str]) -> "TurnMoves":
-        head, *others = lines
-        moved: list[str] = []
-        made: dict[str, tuple[str, ...]] = {}
-        for line in others:
-            cell, _, source = line.partition(" of ")
-            if not source or source.startswith(FROM_OUTSIDE):
-                moved.append(line)
-            else:
-                made[cell] = made.get(cell, ()) + (source,) * (source != NOTHING)
-        return cls(int(head.split()[1]), moved, made)
-
-
-def moves_of(reply: str) -> list[TurnMoves]:
-    """The turns of a reply of `moves`."""
-    parts: list[list[str]] = []
-    for line in listed(reply)[0]:
-        if line.startswith("turn "):
-            parts.append([])
-        parts[-1].append(line)
-    return [TurnMoves.of(it) for it in parts]
 
 
 def listed(reply: str) -> tuple[list[str], bool]:

@@ -128,7 +128,8 @@ class TurnMoves:
                 _, number, *end = source.split()
                 tape = TapeByte(int(number), bool(end))
             else:
-                made[Cell.of(name)] = (*made.get(Cell.of(name), ()), *cells_of(source))
+                cell = Cell.of(name)
+                made[cell] = tuple(dict.fromkeys((*made.get(cell, ()), *cells_of(source))))
         turn = int(head.split()[1])
         return cls(turn, events.get("TKB"), events.get("switches"), tape, disk, made)
 
