@@ -1,7 +1,7 @@
 //! What a value is made of: for each phase of pdp_instruction a row says of which cells before the
 //! phase each cell after it is made. A cell holds data: a half of a word or of a register, a
 //! condition code, the buffer of a device, a byte of the paper tape, or what one phase hands to the
-//! next. The crate has definitions and laws alone, and no program stands on it.
+//! next. The crate has definitions and laws alone.
 //!
 //! # What is proved
 //!

@@ -1,7 +1,7 @@
 //! What a run is made of: from the cells before a turn, back through its act and its beginning, and
 //! turn by turn back to the inputs. These are the events, the bytes of the paper tape, and the
 //! words of core, of the drives and of the registers as of power-up. The crate has definitions and
-//! laws alone, and no program stands on it.
+//! laws alone.
 //!
 //! # What is proved
 //!

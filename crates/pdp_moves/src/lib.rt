@@ -1,6 +1,6 @@
 //! Moves: what each step of pdp_steps makes of what, told as a list of cells and their sources. The
 //! rows of pdp_made are the definition; here code works them out, step by step, over the real
-//! processor and bus. No program stands on this crate.
+//! processor and bus.
 //!
 //! # What is proved
 //!

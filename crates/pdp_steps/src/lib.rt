@@ -1,7 +1,7 @@
 //! The microcode as data: a step for each phase of pdp_instruction's plans and sequences, and of
 //! the fetch. Each step runs alone, over the real processor and bus, and what one hands to the next
-//! is at hand between them. Turns are run by pdp_instruction, which is faster: no program stands on
-//! this crate.
+//! is at hand between them. pdp_instruction runs turns, and is faster. By steps are run only those
+//! turns whose moves are asked for.
 //!
 //! # What is proved
 //!

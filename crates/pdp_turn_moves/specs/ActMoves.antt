@@ -99,15 +99,15 @@ moves_of_cells made (c ∷ cells) =
 abbrev pub both_halves_of : ℕ → List DataCell
 both_halves_of k = CoreByte k Low ∷ CoreByte k High ∷ []
 
-abbrev pub halves_at : ℕ → Option ℕ → List DataCell
-halves_at address None = []
-halves_at address (Some value) =
+abbrev pub halves_written_at : ℕ → Option ℕ → List DataCell
+halves_written_at address None = []
+halves_written_at address (Some value) =
     if nat_lt address first_register then both_halves_of (address / 2) else []
 
 abbrev pub cells_of_cycle : CycleKind → ℕ → Option ℕ → List DataCell
 cells_of_cycle kind.Read address value = []
-cells_of_cycle kind.Write address value = halves_at address value
-cells_of_cycle kind.WriteByte address value = halves_at address value
+cells_of_cycle kind.Write address value = halves_written_at address value
+cells_of_cycle kind.WriteByte address value = halves_written_at address value
 
 abbrev pub cells_written : List BusCycle → List DataCell
 cells_written [] = []
