@@ -1,4 +1,5 @@
--- What some turns made of what, as lines [P].
+-- What some turns moved, as lines: the cells that each turn changed, each with the cells that it was
+-- made of [P].
 use Rattle.std.specs.Prelude.{ℕ, ◌==◌, ◌++◌, Bool, true, false, List, codes, decimal}
 use Rattle.std.specs.Prelude.{if◌then◌else◌}
 use Rattle.pdp_word.specs.Number.{octal_digits}
@@ -31,7 +32,7 @@ code_name code.Zero = codes "Z"
 code_name code.Overflow = codes "V"
 code_name code.Carry = codes "C"
 
--- what a device holds, by the name of its register
+-- what a device holds, by the name of its register; the switches by that of the event that sets them
 abbrev pub buffer_name : BufferName → List ℕ
 buffer_name buffer.Keyboard = codes "TKB"
 buffer_name buffer.Printer = codes "TPB"
@@ -39,7 +40,8 @@ buffer_name buffer.Reader = codes "PRB"
 buffer_name buffer.Punch = codes "PPB"
 buffer_name buffer.Switches = codes "switches"
 
--- a register by its place: places 6 and 7 are the stack pointers of the two modes
+-- a register by its place among the words: 0 to 5 are R0 to R5, 6 and 7 the stack pointers of kernel
+-- and user mode
 abbrev pub name_of_place : ℕ → List ℕ
 name_of_place place =
     if place == 6 then codes "KSP"
@@ -50,7 +52,8 @@ name_of_place place =
 abbrev pub drive_word_text : ℕ → ℕ → List ℕ
 drive_word_text drive word = codes "disk " ++ decimal drive ++ codes " " ++ octal_digits 7 word
 
--- a cell by its name; the last six are the parts that a step hands to the next
+-- a cell by its name. The lines of an act show cells of core, registers, codes and buffers; the last
+-- six, which exist within an act alone, complete the definition.
 unfoldable pub cell_text : CellName → List ℕ
 cell_text (name.CoreByte word h) = codes "core " ++ address_text word ++ half_text h
 cell_text (name.DriveByte drive word h) = drive_word_text drive word ++ half_text h
@@ -70,7 +73,7 @@ unfoldable pub act_line : ActMove → List ℕ
 act_line (act.Of cell source) = cell_text cell ++ codes " of " ++ cell_text source ++ codes "\n"
 act_line (act.OfNothing cell) = cell_text cell ++ codes " of nothing\n"
 
--- what the reader made of a byte of the tape; past the end of the tape PRB stays
+-- past the end of the tape there is no byte: PRB is then made of itself too
 abbrev pub tape_end_text : Bool → List ℕ
 tape_end_text true = codes " PRB\n"
 tape_end_text false = codes "\n"
@@ -78,13 +81,14 @@ tape_end_text false = codes "\n"
 unfoldable pub reader_line : TapeRead → List ℕ
 reader_line reader = codes "PRB of tape " ++ decimal reader.number ++ tape_end_text reader.at_end
 
--- whether each word goes to, or comes from, the first word of core
+-- RKCS, bit 11: the bus address isn't incremented, so all words go to, or come from, one word
 abbrev pub in_place_text : Bool → List ℕ
 in_place_text true = codes " in place\n"
 in_place_text false = codes "\n"
 
 -- what the disk moved: the function, the drive, the number on it of the first word, the address of
--- the first word in core, and how many words
+-- the first word in core, and how many words. A write also fills the rest of its last sector with
+-- zeros [6.93], which no line tells.
 unfoldable pub disk_line : DiskMoves → List ℕ
 disk_line moves =
     codes "disk " ++ function_name moves.function ++ codes " " ++ decimal moves.drive
@@ -92,7 +96,7 @@ disk_line moves =
     ++ address_text moves.transfer.core_start ++ codes " " ++ decimal moves.transfer.count
     ++ in_place_text moves.transfer.no_increment
 
--- a number in decimal, which ends a line
+-- a text, a number in decimal, and the end of the line
 abbrev pub numbered_line : List ℕ → ℕ → List ℕ
 numbered_line text number = text ++ decimal number ++ codes "\n"
 

@@ -47,7 +47,7 @@ pub enum Search {
         turn: u32,
         count: u32,
     },
-    // What the last turns before a turn made of what.
+    // The moves of the last turns before a turn.
     Moves {
         turn: u32,
         count: u32,
@@ -104,7 +104,7 @@ pub enum Finding {
     Reads(FoundList<WordRead>, bool),
     // What the first of the turns have in them, and whether turns were left.
     Accesses(FoundList<TurnDetail>, bool),
-    // What all the turns made of what.
+    // The moves of all the turns.
     Moves(FoundList<MoveDetail>),
     // The first completions of the disk, and whether turns were left that may have more.
     Transfers(FoundList<DiskCompletion>, bool),

@@ -55,7 +55,7 @@ fn move_text(detail: MoveDetail) -> Text
         MoveDetail::Switches(number) => numbered_text("switches of event ", number),
         MoveDetail::Reader(reader) => reader_text(reader),
         MoveDetail::Disk(moves) => disk_text(moves),
-        MoveDetail::Act(made) => act_text(made),
+        MoveDetail::Act(made) => made_text(made),
     }
 }
 
@@ -124,7 +124,7 @@ fn in_place(no_increment: bool) -> &'static str
 
 /// A cell after an act, and one before it that it is made of, or that it is made of nothing.
 #[tactic(auto, unfolding(crate::specs::MoveLines::act_line))]
-fn act_text(made: ActMove) -> Text
+fn made_text(made: ActMove) -> Text
     ensures { result.items ≡ act_line made }
 {
     let mut text = Text::new();
@@ -180,7 +180,7 @@ fn add_cell(text: &mut Text, cell: CellName)
     }
 }
 
-/// Adds a name, and which one of those that have it.
+/// Adds two texts.
 fn add_named(text: &mut Text, name: &str, which: &str)
     requires { length text.old.items + length name.now + length which.now ≤ LONGEST_TEXT }
     ensures text { text.new.items ≡ text.old.items ++ (name.now ++ which.now) }
