@@ -1,5 +1,5 @@
--- What some turns moved, as lines: the cells that each turn changed, each with the cells that it was
--- made of [P].
+-- What some turns moved, as lines: the cells that each turn changed, each with the cells that it
+-- was made of [P].
 use Rattle.std.specs.Prelude.{ℕ, ◌==◌, ◌++◌, Bool, true, false, List, codes, decimal}
 use Rattle.std.specs.Prelude.{if◌then◌else◌}
 use Rattle.pdp_word.specs.Number.{octal_digits}
@@ -32,7 +32,8 @@ code_name code.Zero = codes "Z"
 code_name code.Overflow = codes "V"
 code_name code.Carry = codes "C"
 
--- what a device holds, by the name of its register; the switches by that of the event that sets them
+-- what a device holds, by the name of its register; the switches by that of the event that sets
+-- them
 abbrev pub buffer_name : BufferName → List ℕ
 buffer_name buffer.Keyboard = codes "TKB"
 buffer_name buffer.Printer = codes "TPB"
@@ -40,8 +41,8 @@ buffer_name buffer.Reader = codes "PRB"
 buffer_name buffer.Punch = codes "PPB"
 buffer_name buffer.Switches = codes "switches"
 
--- a register by its place among the words: 0 to 5 are R0 to R5, 6 and 7 the stack pointers of kernel
--- and user mode
+-- a register by its place among the words: 0 to 5 are R0 to R5, 6 and 7 the stack pointers of
+-- kernel and user mode
 abbrev pub name_of_place : ℕ → List ℕ
 name_of_place place =
     if place == 6 then codes "KSP"
@@ -52,8 +53,8 @@ name_of_place place =
 abbrev pub drive_word_text : ℕ → ℕ → List ℕ
 drive_word_text drive word = codes "disk " ++ decimal drive ++ codes " " ++ octal_digits 7 word
 
--- a cell by its name. The lines of an act show cells of core, registers, codes and buffers; the last
--- six, which exist within an act alone, complete the definition.
+-- a cell by its name. The lines of an act show cells of core, registers, codes and buffers; the
+-- last six, which exist within an act alone, complete the definition.
 unfoldable pub cell_text : CellName → List ℕ
 cell_text (name.CoreByte word h) = codes "core " ++ address_text word ++ half_text h
 cell_text (name.DriveByte drive word h) = drive_word_text drive word ++ half_text h
