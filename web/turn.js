@@ -161,16 +161,18 @@ export class TurnPanel {
   /** What the beginning of the turn moves.
       @param {string} line @param {import("./past.js").ScriptEvent[]} events @returns {Inside[]} */
   begun(line, events) {
-    const [what, source] = line.split(" of "), [kind, number] = (source ?? "").split(" ");
+    const [what, source] = line.split(" of "), [kind, number, end] = (source ?? "").split(" ");
     if (kind === "event") return [what, this.event(events[Number(number)])[1]];
-    if (kind === "tape") return [what, `byte ${number} of the tape`];
-    const [, name, drive, index, core, count] = line.split(" ");
+    if (kind === "tape") return [what, `byte ${number} of the tape${end ? ", which ends" : ""}`];
+    const [, name, drive, index, core, count, ...place] = line.split(" ");
     const sides = [`core ${core}`, `word ${index} of drive ${drive}`];
     const [to, from] = name === "write" ? sides.reverse() : sides;
-    return [`${to}, ${counted(Number(count), "word")}`, from];
+    const words = counted(Number(count), "word");
+    return [`${to}, ${words}${place.length ? ", in place" : ""}`, from];
   }
 
-  /** A move. If a source isn't known to have the value of before the turn, that isn't shown.
+  /** A move. Values of before the turn are shown if the sources are known to have kept them, which
+      the disk may have changed when the act began.
       @param {Group} group @param {Values} values @param {number} turn @param {boolean} isKnown
       @returns {Inside[]} */
   move({ targets, sources }, values, turn, isKnown) {

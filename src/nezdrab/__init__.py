@@ -20,6 +20,8 @@ if TYPE_CHECKING:
     from .core.found import Found as Found, Transfer as Transfer, Unreadable as Unreadable
     from .core.machine import Machine as Machine
     from .core.moves import EventMoves as EventMoves, Moved as Moved
+    from .core.moves_of_turns import Cell as Cell, CellKind as CellKind, DiskMoved as DiskMoved
+    from .core.moves_of_turns import TapeByte as TapeByte, TurnMoves as TurnMoves
     from .core.past import Event as Event, Setup as Setup
     from .core.program import TimedOut as TimedOut
     from .core.questions import Question as Question
@@ -28,8 +30,6 @@ if TYPE_CHECKING:
     from .core.replies import Pages as Pages, Registers as Registers, Turn as Turn
     from .core.replies import TurnAccesses as TurnAccesses, WordRead as WordRead
     from .core.struck import Fate as Fate, StruckKey as StruckKey
-    from .core.moves_of_turns import Cell as Cell, CellKind as CellKind, DiskMoved as DiskMoved
-    from .core.moves_of_turns import TapeByte as TapeByte, TurnMoves as TurnMoves
 
     NezdrabError = ExploreError
     __version__: str
@@ -43,13 +43,13 @@ NAMES = {
     "found": "Found Transfer Unreadable",
     "machine": "Machine",
     "moves": "EventMoves Moved",
+    "moves_of_turns": "Cell CellKind DiskMoved TapeByte TurnMoves",
     "past": "Event Setup",
     "program": "ProgramEnded TimedOut",
     "questions": "Question",
     "replies": "BusCycle CycleKind Devices LastWrite Mode Pages Registers Turn TurnAccesses "
     "WordRead",
     "struck": "Fate StruckKey",
-    "moves_of_turns": "Cell CellKind DiskMoved TapeByte TurnMoves",
 }
 PLACES = {name: f"core.{module}" for module, names in NAMES.items() for name in names.split()}
 OTHERWISE_NAMED = {"NezdrabError": "ExploreError"}

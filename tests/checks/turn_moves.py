@@ -9,7 +9,7 @@ from typing import Iterator
 
 from nezdrab.core.engine import Machine, Start
 from nezdrab.core.moves_of_turns import NOTHING
-from tests.checks.disk_transfers import NO_INCREMENT, Disk
+from tests.checks.disk_transfers import NO_INCREMENT, REFUSING, Disk
 from tests.checks.stored_systems import System
 from tests.checks.turn_accesses import MOST_TURNS
 from tests.checks.wide_flows import Made, made_by, wide_flows
@@ -65,7 +65,7 @@ def beginning(system: System, disk: Disk, reader: Reader, turn: int) -> Iterator
         yield reader.found[turn]
     if turn in disk.found:
         now, done = disk.found[turn]
-        if now.function in MOVING and done.words:
+        if now.function in MOVING and not done.errors & REFUSING:
             place = f"{now.drive} {now.first_word:07o} {now.address & ~1:06o} {done.words}"
             yield f"disk {now.function} {place}{' in place' * bool(now.control & NO_INCREMENT)}"
 

@@ -14,17 +14,17 @@ a cell may be named that no bit depends on. WIDER has explore's rules with the s
   an input: it comes from the tape."""
 from typing import Iterator, Optional, Sequence
 
-from nezdrab.analysis.cells import ALL_CODES, CODES, NAMES, NOTHING, PRB, PS, REGISTERS, SWITCHES
+from nezdrab.analysis.cells import ALL_CODES, CODES, NAMES, NAMES_ON_THE_BUS, NOTHING, OUTPUTS
+from nezdrab.analysis.cells import PRB, PS, REGISTERS, SWITCHES, TKB
 from nezdrab.analysis.cells import Cells, byte_of_drive, is_core, is_of_drive, is_register
-from nezdrab.analysis.cells import NAMES_ON_THE_BUS, OUTPUTS, TKB
 from nezdrab.analysis.made_of import EXTENDED, KEPT, MadeRow, letters, plan_of
 from nezdrab.analysis.operands import Flow, How, Operand
 from nezdrab.analysis.transfers import DiskMove
 from nezdrab.analysis.turn_cycles import NotFollowed
 from nezdrab.analysis.turn_flow import Flows
 from nezdrab.core.engine import Machine
-from nezdrab.core.past import Event
 from nezdrab.core.moves_of_turns import Cell, CellKind, DiskMoved, TurnMoves, in_words
+from nezdrab.core.past import Event
 from nezdrab.core.values import replace
 
 PRS = 0o777550
@@ -123,7 +123,7 @@ def differences(flow: Flow, told: TurnMoves, events: Sequence[Event]) -> Iterato
         if made.get(cell) != of.get(cell):
             yield f"{cell}: {sources_in_words(made, cell)}, not {sources_in_words(of, cell)}"
     wanted = (last_of("key ", events), last_of("switches ", events), disk_of(flow.transfer))
-    found = told.key, told.switches, told.disk
+    found = told.key, told.switches, told.disk if told.disk and told.disk.count else None
     if wanted != found:
         yield f"beginning: {wanted}, not {found}"
 
@@ -139,6 +139,8 @@ def last_of(kind: str, events: Sequence[Event]) -> Optional[int]:
 
 
 def disk_of(moved: Optional[DiskMove]) -> Optional[DiskMoved]:
+    """What the disk moves, or None of no word: `moves` has a line of a transfer that stops at its
+    first word, and none of a function that is refused."""
     if moved is None or not moved.count:
         return None
     function = "read" if moved.is_read else "write"

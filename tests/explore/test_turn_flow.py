@@ -10,8 +10,8 @@ from nezdrab.analysis.turn_flow import Flows
 from nezdrab.core.engine import MOST_WORDS, Machine, Start
 from nezdrab.core.errors import ExploreError
 from nezdrab.core.hardware import OPERAND_TRAPS
-from nezdrab.core.replies import INSTRUCTION
 from nezdrab.core.moves_of_turns import grouped, in_words
+from nezdrab.core.replies import INSTRUCTION
 from tests.checks.wide_flows import compared, made_by
 
 from .explore_case import BUILT

@@ -3,8 +3,8 @@ from collections import defaultdict
 from typing import Iterator, Sequence
 
 from ..core.found import Transfer
-from ..core.past import Event
 from ..core.moves_of_turns import TurnMoves, grouped, in_words
+from ..core.past import Event
 from .accesses import function_line, shown, turns_before
 from .command import Arguments, command
 from .explorer import Explorer

@@ -8,13 +8,13 @@ from .drive_searches import LAST_TURN as LAST_TURN, is_of_drive, reply_to
 from .errors import ExploreError
 from .interrupts import INTERRUPTS
 from .language import explanation, is_edit
+from .moves_of_turns import TurnMoves, moves_of
 from .options import faults_of, options_of_words
 from .past import Event, Setup, without_zeros
 from .program import Program, ProgramEnded, TimedOut
 from .replies import SPACES, Devices, LastWrite, Mode, Pages, Registers, Turn, TurnAccesses
 from .replies import accesses_of, listed, text_of, turns_of, words_of
 from .sessions import first_word
-from .moves_of_turns import TurnMoves, moves_of
 from .values import dataclass, field, replace
 
 if TYPE_CHECKING:

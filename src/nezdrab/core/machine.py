@@ -22,6 +22,7 @@ from .errors import ExploreError
 from .found import Found, Transfer, going_on
 from .in_words import counted
 from .language import explanation, is_edit
+from .moves_of_turns import TurnMoves
 from .options import Options, check_session, faults_of, option_lines, options_of_session
 from .options import options_of_words, words_of_options
 from .past import Event
@@ -34,7 +35,6 @@ from .session_file import made_edits
 from .struck import StruckKey, struck_keys
 from .symbols import ADDRESS, OCTAL, Symbols
 from .trials import Trials
-from .moves_of_turns import TurnMoves
 from .walks import Walks
 from .words import Core, Drive
 from .written_files import Output

@@ -22,10 +22,10 @@ from .engine import LAST_TURN, MOST_TURNS_OF_A_TRAIL, MOST_WORDS, Machine as Eng
 from .errors import ExploreError
 from .found import Found, Transfer, readable
 from .language import STEPS, is_edit
+from .moves_of_turns import TurnMoves, moves_of
 from .past import Event, Setup
 from .replies import Devices, LastWrite, Mode, Pages, Registers, Turn, TurnAccesses, WordRead
 from .replies import accesses_of, listed, text_of, turns_of, words_of
-from .moves_of_turns import TurnMoves, moves_of
 from .values import dataclass
 
 Answer = TypeVar("Answer")
