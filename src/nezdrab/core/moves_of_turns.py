@@ -11,7 +11,8 @@ CODES, BUFFERS = ("N", "Z", "V", "C"), ("TKB", "TPB", "PRB", "PPB", "switches")
 
 class CellKind(Enum):
     """What holds a cell of data: DEVICE is TKB, TPB, PRB, PPB or the switches, and STEP is a part
-    that a step of an instruction hands to the next."""
+    that a step of an instruction hands to the next. Words of the disk and bytes of the tape move
+    only in the beginning of a turn: TurnMoves.made has none."""
 
     CORE = "core"
     DISK = "disk"
@@ -67,9 +68,10 @@ class Cell(NamedTuple):
 
 @dataclass(frozen=True)
 class DiskMoved:
-    """What the disk moves in the beginning of a turn: its function, the drive, the first word of
-    the drive, the address of the first word of core, and how many words. If the bus address
-    `stays`, each word goes to that address, or comes from it."""
+    """What the disk moves in the beginning of a turn: its function (read or write), the drive, the
+    first word of the drive, the address of the first word of core, and how many words, maybe none.
+    If the bus address `stays`, each word goes to that address, or comes from it. A write also fills
+    the rest of its last sector with zeros."""
 
     function: str
     drive: int
