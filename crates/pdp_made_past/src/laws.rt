@@ -1,5 +1,7 @@
 //! Laws of what a past makes.
 
+ghost use Rattle.pdp_made_past.specs.KeptCells.{AllCyclesAreListed, DriveBytesStay, TapeBytesStay};
+ghost use Rattle.pdp_made_past.specs.KeptCells.{UnlistedCellsStay, UnwrittenWordsStay};
 ghost use Rattle.pdp_made_past.specs.PastRows.{DriveWordsTell, PastsTell, PunchedTextsTell};
 ghost use Rattle.pdp_made_past.specs.PastRows.{StatesAreOfRows, TextsTell, CoreWordsTell};
 
@@ -24,4 +26,20 @@ pub fn words_and_texts_are_made_of_inputs()
     ensures drives { DriveWordsTell }
     ensures printed { TextsTell }
     ensures punched { PunchedTextsTell }
+{}
+
+/// A law and no code: if no bus cycle of a turn wrote a word of core, the act of the turn makes the
+/// word of itself alone. An act makes every word of a drive and every byte of the tape of itself
+/// alone.
+pub fn unwritten_cells_stay()
+    ensures core { UnwrittenWordsStay }
+    ensures drives { DriveBytesStay }
+    ensures tape { TapeBytesStay }
+{}
+
+/// A law and no code: if no move to a cell is listed of the act of a turn of a run, the act makes
+/// the cell of itself alone. The cycles that are listed of a turn are all of its cycles.
+pub fn unlisted_cells_stay()
+    ensures cycles { AllCyclesAreListed }
+    ensures cells { UnlistedCellsStay }
 {}

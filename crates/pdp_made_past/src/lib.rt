@@ -10,6 +10,9 @@
 //!   cell are the same in both pasts, that cell is the same there
 //!   (`rows_tell_what_pasts_make`), and so are a word whose halves are, and the text that was
 //!   printed or punched if the inputs of each byte are (`words_and_texts_are_made_of_inputs`).
+//! - If no move to a cell is listed of the act of a turn, the act makes the cell of itself alone
+//!   (`unlisted_cells_stay`). So it does with each word of core that no bus cycle of the turn wrote,
+//!   and with the drives and the tape (`unwritten_cells_stay`).
 //!
 //! The laws say that the named inputs are enough, not that each of them matters. They say nothing
 //! of two runs that go different ways.
@@ -18,5 +21,6 @@
 mod laws;
 
 pub use laws::{
-    rows_tell_what_pasts_make, states_are_those_of_rows, words_and_texts_are_made_of_inputs,
+    rows_tell_what_pasts_make, states_are_those_of_rows, unlisted_cells_stay, unwritten_cells_stay,
+    words_and_texts_are_made_of_inputs,
 };
