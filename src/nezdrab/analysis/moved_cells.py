@@ -37,8 +37,7 @@ def moves(explorer: Explorer, arguments: Arguments) -> Iterator[str]:
     nothing`. A cell is a half of a word, `.0` the low one, a condition code, or what a device
     holds; a word without a half has both. One that isn't shown is made of itself alone: it stays,
     or changes as by INC. Addresses, branches and PC are no data. This is a reply of the program,
-    which is proved. `why` goes back over many turns by explore's own rules: the tests compare them
-    with this, turn by turn. Without N it is the current turn."""
+    which is proved; `why` goes back over many turns. Without N it is the current turn."""
     turns, events = turns_before(explorer, arguments), defaultdict[int, list[Event]](list)
     for it in explorer.machine.script:
         events[it.turn].append(it)

@@ -402,7 +402,8 @@ def why(explorer: Explorer, arguments: Arguments) -> Iterator[str]:
     it was before them. At the end stand the events that the value is made of. 'Made of' is of data:
     what a branch decided isn't followed, and at which address a value was only with `places`. After
     2000 steps, or C of `steps`, the rest isn't followed, nor is a register further back than 20000
-    turns: both are said. The page draws the turns of these steps."""
+    turns: both are said. The page draws the turns of these steps. `moves` has what single turns
+    make of what, as the program proves it: explore's rules are compared with that."""
     machine, turn = explorer.machine, arguments.decimal("turn", explorer.turn)
     what, most = asked(explorer, arguments, turn), arguments.decimal("steps", MOST_STEPS)
     if not most:
