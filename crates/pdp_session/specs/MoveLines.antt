@@ -1,5 +1,4 @@
--- What some turns moved, as lines: the cells that each turn changed, each with the cells that it
--- was made of [P].
+-- What some turns moved, as lines: which cells each turn made of which [P].
 use Rattle.std.specs.Prelude.{ℕ, ◌==◌, ◌++◌, Bool, true, false, List, codes, decimal}
 use Rattle.std.specs.Prelude.{if◌then◌else◌}
 use Rattle.pdp_word.specs.Number.{octal_digits}
