@@ -1,6 +1,8 @@
 // What the page's one file holds besides its code: the modules, the text of the worker, a session
 // and examples. `tools/web --pack` puts each into an element of its own, which the browser doesn't
-// run.
+// run. The page's code is in such an element too, and loader.js runs it.
+
+import { bytesOfDigits, inflated, textOf } from "./unpacking.js";
 
 /** @typedef {import("./session.js").Session} Session */
 
@@ -9,48 +11,16 @@ function copyOf(it) {
   return /** @type {Element} */ (it.cloneNode(true));
 }
 
-/** @param {string} id */
-const textOf = id => document.getElementById(id)?.textContent ?? "";
-
-// The page as it was when it was opened: a module's script runs once all is there.
+// The page as it was when it was opened: a module's script runs once all is there, and loader.js
+// leaves nothing of its own.
 const opened = copyOf(document.documentElement);
 
 /** @param {string} base64 */
 const bytesOf = base64 => Uint8Array.from(atob(base64), it => it.charCodeAt(0));
 
-// The browser has these; the checker of types doesn't know them.
+// The browser has it; the checker of types doesn't know it.
 /** @type {any} */
-const { CompressionStream: Deflating, DecompressionStream: Inflating } = globalThis;
-
-// The digits of base 85, as Python has them but for the full stop, which stands for <.
-const DIGITS =
-  "0123456789ABCDEFGHIJKLMNOPQRSTUVWXYZabcdefghijklmnopqrstuvwxyz!#$%&()*+-;.=>?@^_`{|}~";
-const LAST_DIGIT = "~";
-
-/** The bytes of a module's text: each five digits are four bytes, the first digit the highest.
-    @param {string} text */
-function bytesOfDigits(text) {
-  const missing = (5 - (text.length % 5)) % 5;
-  const whole = text + LAST_DIGIT.repeat(missing);
-  const values = new Uint8Array(128);
-  for (const [value, it] of [...DIGITS].entries()) values[it.charCodeAt(0)] = value;
-  const words = new DataView(new ArrayBuffer((whole.length / 5) * 4));
-  let word = 0;
-  for (let at = 0; at < whole.length; at++) {
-    word = word * 85 + values[whole.charCodeAt(at)];
-    if (at % 5 === 4) {
-      words.setUint32(((at - 4) / 5) * 4, word);
-      word = 0;
-    }
-  }
-  return new Uint8Array(words.buffer, 0, words.byteLength - missing);
-}
-
-/** @param {Uint8Array} packed */
-async function inflated(packed) {
-  const stream = new Blob([packed]).stream().pipeThrough(new Inflating("gzip"));
-  return new Uint8Array(await new Response(stream).arrayBuffer());
-}
+const { CompressionStream: Deflating } = globalThis;
 
 /** @param {Uint8Array} bytes @returns {Promise<string>} */
 async function deflated(bytes) {
@@ -65,16 +35,16 @@ async function deflated(bytes) {
 }
 
 /** @type {Map<string, Promise<WebAssembly.Module>>} */
-const modules = new Map();
+const compiled = new Map();
 
 /** The compiled module of a program; it is compiled once.
     @param {string} program @returns {Promise<WebAssembly.Module>} */
 export function packedModule(program) {
-  const known = modules.get(program);
+  const known = compiled.get(program);
   if (known) return known;
   const packed = bytesOfDigits(textOf(`${program}.wasm`));
   const made = inflated(packed).then(it => WebAssembly.compile(it));
-  modules.set(program, made);
+  compiled.set(program, made);
   return made;
 }
 

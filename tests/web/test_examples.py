@@ -168,4 +168,4 @@ class Examples(PageCase):
 
     def test_the_page_is_small(self) -> None:
         packed = Path(packed_page().removeprefix("file://"))
-        self.assertLess(packed.stat().st_size, 1_200_000)
+        self.assertLess(packed.stat().st_size, 1_000_000)

@@ -128,6 +128,19 @@ class Files(FilesCase):
         self.browser.reload()
         self.balance(LOST)
 
+    def test_a_saved_page_is_packed_too(self) -> None:
+        """It has the page's elements, and one of what was shown; so has a page that it saves."""
+        if packed_page().startswith("http"):
+            self.skipTest("the page isn't packed")
+        packed = Path(packed_page().removeprefix("file://")).read_text()
+        first = self.saved("#save-page")
+        self.browser.open(first.as_uri())
+        self.balance(LOST)
+        self.wait_still()
+        for text in first.read_text(), self.saved("#save-page").read_text():
+            self.assertEqual(text.count("<script "), packed.count("<script ") + 1)
+            self.assertLess(len(text), len(packed) + 100_000)
+
     def shown(self) -> list[str]:
         """What is shown of a past with edits, once all is there."""
         self.balance(SAFE)

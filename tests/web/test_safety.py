@@ -1,10 +1,29 @@
 """What comes from outside is text: it never becomes HTML, and nothing leaves the page."""
-from .page_case import PageCase
+from .page_case import PageCase, packed_page
 
 EVIL = "<script>window.evil=1</script><img src=x onerror='window.evil=1'>\"'&"
 
 
+# A script as the page's loader makes one, with another text.
+ANOTHER = """(async () => {
+  const script = document.createElement("script");
+  script.type = "module";
+  script.textContent = "window.evil = 1";
+  document.head.append(script);
+  script.remove();
+  await new Promise(done => setTimeout(done, 200));
+})()"""
+
+
 class Safety(PageCase):
+    def test_a_script_of_another_text_is_not_run(self) -> None:
+        if packed_page().startswith("http"):
+            self.skipTest("the page isn't packed")
+        self.browser.value(ANOTHER)
+        self.no_harm()
+        self.assertIn("Content Security Policy", " ".join(self.browser.messages))
+        self.browser.messages = []
+
     def no_harm(self) -> None:
         self.assertIsNone(self.browser.value("window.evil ?? null"))
         self.assertEqual(self.browser.value("document.querySelectorAll('img').length"), 0)

@@ -35,6 +35,7 @@ MODULES = {
     "low.js": 'import { two } from "./two.js";\n'
     "export async function one() {}\nexport class Two {}\n",
     "two.js": "export const two = 2;\n",
+    "loader.js": 'import { two } from "./two.js";\nrun(two);\n',
     "machine-worker.js": 'import { two } from "./two.js";\nself.two = two;\n',
 }
 SESSION = PageSession(
@@ -66,16 +67,21 @@ class Case(unittest.TestCase):
         assert found is not None
         return found[1]
 
+    def script(self) -> str:
+        """The page's script, which is packed in its page."""
+        return bundle.module_bytes(self.element(self.packed(), "main.js")).decode()
+
 
 class Packed(Case):
     """What is in the one file."""
 
     def test_modules_come_after_those_that_they_import(self) -> None:
-        names = re.findall(r'^modules\["([a-z.]+)"\] =', self.packed(), re.M)
-        self.assertEqual(names, ["two.js", "two.js", "low.js", "main.js"])
+        begun = re.compile(r'^modules\["([a-z.]+)"\] =', re.M)
+        self.assertEqual(begun.findall(self.script()), ["two.js", "low.js", "main.js"])
+        self.assertEqual(begun.findall(self.packed()), ["two.js", "two.js", "loader.js"])
         for it in "const { one: first, two } = modules", "return { one, Two };", "return { two };":
-            self.assertIn(it, self.packed())
-        self.assertNotRegex(self.packed(), r"(?m)^(import|export) ")
+            self.assertIn(it, self.script())
+        self.assertNotRegex(self.packed() + self.script(), r"(?m)^(import|export) ")
 
     def test_comments_alone_in_their_lines_are_left_out(self) -> None:
         """A comment that code follows or precedes stays, and the code between two does. The types
@@ -84,15 +90,15 @@ class Packed(Case):
         self.write({"two.js": f"{text}// a line\n\n  const it = two; // stays\n/* last */\n"})
         self.write({"style.css": "/* a line */\n\nb {\n  top: 0;\n}\n"})
         wanted = "const two = 2;\n/** a */ ((two))\nconst it = two; // stays\nreturn {"
-        self.assertIn(wanted, self.packed())
-        self.assertNotIn("a line", self.packed())
+        self.assertIn(wanted, self.script())
+        self.assertNotIn("a line", self.packed() + self.script())
         self.assertIn("<style>\nb {\ntop: 0;\n}\n</style>", self.packed())
 
     def test_a_literal_of_several_lines_keeps_them(self) -> None:
         text = "// out\nexport const two = `\n\n  a`;\n"
         self.write({"two.js": text})
-        self.assertIn("const two = `\n\n  a`;\nreturn {", self.packed())
-        self.assertNotIn("out", self.packed())
+        self.assertIn("const two = `\n\n  a`;\nreturn {", self.script())
+        self.assertNotIn("out", self.script())
 
     def test_the_same_bytes_each_time(self) -> None:
         self.assertEqual(self.packed(SESSION), self.packed(SESSION))
@@ -136,7 +142,8 @@ class Packed(Case):
         self.assertEqual(policy[0].count("'wasm-unsafe-eval'"), 1)
         script = re.findall(r'<script type="module">(.*?)</script>', text, re.S)
         style = re.findall(r"<style>(.*?)</style>", text, re.S)
-        for inside in *script, *style:
+        self.assertEqual((len(script), policy[0].count("'sha256-")), (1, 3))
+        for inside in *script, *style, self.script():
             self.assertIn(bundle.source_of(inside), policy[0])
         self.assertNotRegex(text, r'\b(src|href)="')
 
@@ -167,6 +174,7 @@ class Packed(Case):
         for old, new in (
             (script, ""),
             (script, script + script),
+            ("main.js", "two.js"),
             ("<body>", '<body style="margin: 0">'),
             ('<meta charset="utf-8">\n', ""),
         ):
@@ -176,7 +184,7 @@ class Packed(Case):
                 self.packed()
 
     def test_a_file_that_is_missing(self) -> None:
-        for name in "style.css", "two.js", "machine-worker.js", "index.html":
+        for name in "style.css", "two.js", "loader.js", "machine-worker.js", "index.html":
             (self.folder / name).rename(self.folder / "gone")
             said = f"{name}: No such file"
             with self.subTest(name), self.assertRaisesRegex(bundle.PackingError, said):
@@ -258,7 +266,7 @@ class ByExplore(Case):
         wanted = {"name": "", "arguments": [], "lines": [], "files": {}}
         self.assertEqual(self.session("nezdrab.html"), wanted)
         packed = (ROOT / "release" / "nezdrab.html").read_text()
-        for name in "examples", "sessions", "search.wasm", "machine-worker.js":
+        for name in "examples", "sessions", "main.js", "search.wasm", "machine-worker.js":
             text = self.element((self.folder / "nezdrab.html").read_text(), name)
             self.assertEqual(text, self.element(packed, name))
 

@@ -1,8 +1,9 @@
-"""Packs a page of web/ into one file that opens from a disk: the page with its style, its modules
-as one script, and in elements of their own, which a browser doesn't run, the text of the worker,
-the WebAssembly modules, a session and examples. The examples are packed together; a session that
-is one of them is named by its key. A content security policy allows what is packed to run, and
-nothing elsewhere to be reached.
+"""Packs a page of web/ into one file that opens from a disk: the page with its style, a script that
+loads it, and in elements of their own, which a browser doesn't run, its modules as one script, the
+text of the worker, the WebAssembly modules, a session and examples. The script is packed as a
+WebAssembly module is, and web/loader.js unpacks it. The examples are packed together; a session
+that is one of them is named by its key. A content security policy allows what is packed to run,
+and nothing elsewhere to be reached.
 
 A module imports by lines `import { a, b } from "./name.js";`, and exports functions, classes and
 constants where they are declared. In the script each module is a function that returns what it
@@ -19,6 +20,8 @@ from nezdrab.export.page_file import EMPTY, SESSION, PageSession, as_json, eleme
 from nezdrab.export.page_file import json_text, packed_bytes
 
 WORKER = "machine-worker.js"
+LOADER = "loader.js"
+MAIN = "main.js"  # whose element web/loader.js takes
 SESSIONS = "sessions"
 IMPORT = re.compile(r'^import \{([^}]*)\} from "\./([a-z-]+\.js)";\n', re.M)
 EXPORT = re.compile(r"^export (?=(?:async )?(?:function|class|const) (\w+))", re.M)
@@ -29,7 +32,7 @@ INDENT = re.compile(r"^[ \t]+", re.M)
 BLANK = re.compile(r"\n{2,}")
 OTHER_FORMS = re.compile(r"^(?:import|export)\b.*|\bimport(?:\(|\.meta)", re.M)
 ENDS_SCRIPT = re.compile(r"</script|<!--", re.I)
-SCRIPT = re.compile(r'<script type="module" src="([a-z-]+\.js)"></script>')
+SCRIPT = re.compile(rf'<script type="module" src="{re.escape(MAIN)}"></script>')
 STYLE = re.compile(r'<link rel="stylesheet" href="([a-z-]+\.css)">')
 HEAD = '<meta charset="utf-8">\n'
 
@@ -118,25 +121,26 @@ def of_examples(examples: Sequence[Example]) -> str:
 
 
 def module_text(module: bytes) -> str:
-    """A WebAssembly module as the text of its element: packed, five characters for four bytes. A
-    full stop stands for the digit `<`, so that nothing in the text is a tag."""
+    """A WebAssembly module or a script as the text of its element: packed, five characters for four
+    bytes. A full stop stands for the digit `<`, so that nothing in the text is a tag."""
     return base64.b85encode(gzip.compress(module, 9, mtime=0)).decode("ascii").replace("<", ".")
 
 
 def module_bytes(text: str) -> bytes:
-    """The module whose element has this text; a ValueError if it can't be read."""
+    """What the element with this text has; a ValueError if it can't be read."""
     try:
         return gzip.decompress(base64.b85decode(text.replace(".", "<")))
     except (OSError, EOFError, zlib.error) as error:
         raise ValueError(f"the module can't be unpacked: {error}") from error
 
 
-def policy(script: str, styles: Sequence[str]) -> str:
-    """The content security policy: the page's own script and style, compiling WebAssembly, and a
+def policy(scripts: Sequence[str], styles: Sequence[str]) -> str:
+    """The content security policy: the page's own scripts and style, compiling WebAssembly, and a
     worker that the page made; nothing of any host."""
+    script = " ".join(map(source_of, scripts))
     style = " ".join(source_of(it) for it in styles) or "'none'"
     return (
-        f"default-src 'none'; script-src {source_of(script)} 'wasm-unsafe-eval'; "
+        f"default-src 'none'; script-src {script} 'wasm-unsafe-eval'; "
         f"style-src {style}; worker-src blob:; img-src data: blob:; "
         "base-uri 'none'; form-action 'none'"
     )
@@ -159,17 +163,18 @@ def page(
     entry = SCRIPT.findall(text)
     if len(entry) != 1 or text.count(HEAD) != 1 or re.search(r"\sstyle=", text):
         raise PackingError(
-            f"{path}: a page has one line {HEAD.strip()}, one <script type=\"module\" src=..>, and"
-            " no attribute style, which its policy forbids"
+            f"{path}: a page has one line {HEAD.strip()}, one <script type=\"module\""
+            f" src=\"{MAIN}\">, and no attribute style, which its policy forbids"
         )
-    script = script_of(folder, entry[0])
+    script, loader = script_of(folder, MAIN), script_of(folder, LOADER)
     styles = {str(it): stripped(text_of(folder / it)) for it in STYLE.findall(text)}
-    inside = element("text/plain", WORKER, script_of(folder, WORKER))
+    inside = element("text/plain", MAIN, module_text(script.encode()))
+    inside += element("text/plain", WORKER, script_of(folder, WORKER))
     for name in sorted(programs):
         inside += element("text/plain", f"{name}.wasm", module_text(programs[name]))
     inside += json_element(SESSION, session_as_json(session, examples)) + of_examples(examples)
-    allowed = policy(script, list(styles.values()))
+    allowed = policy((loader, script), list(styles.values()))
     head = f'<meta http-equiv="Content-Security-Policy" content="{allowed}">\n'
     text = text.replace(HEAD, HEAD + head)
     text = STYLE.sub(lambda match: f"<style>{styles[match[1]]}</style>", text)
-    return SCRIPT.sub(lambda _: f'{inside}<script type="module">{script}</script>', text)
+    return SCRIPT.sub(lambda _: f'{inside}<script type="module">{loader}</script>', text)
