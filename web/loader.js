@@ -14,4 +14,4 @@ function run(bytes) {
   script.remove();
 }
 
-inflated(bytesOfDigits(textOf("main.js"))).then(run);
+inflated(bytesOfDigits(textOf("script"))).then(run);

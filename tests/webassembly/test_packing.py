@@ -69,7 +69,7 @@ class Case(unittest.TestCase):
 
     def script(self) -> str:
         """The page's script, which is packed in its page."""
-        return bundle.module_bytes(self.element(self.packed(), "main.js")).decode()
+        return bundle.module_bytes(self.element(self.packed(), "script")).decode()
 
 
 class Packed(Case):
@@ -174,7 +174,6 @@ class Packed(Case):
         for old, new in (
             (script, ""),
             (script, script + script),
-            ("main.js", "two.js"),
             ("<body>", '<body style="margin: 0">'),
             ('<meta charset="utf-8">\n', ""),
         ):
@@ -266,7 +265,7 @@ class ByExplore(Case):
         wanted = {"name": "", "arguments": [], "lines": [], "files": {}}
         self.assertEqual(self.session("nezdrab.html"), wanted)
         packed = (ROOT / "release" / "nezdrab.html").read_text()
-        for name in "examples", "sessions", "main.js", "search.wasm", "machine-worker.js":
+        for name in "examples", "sessions", "script", "search.wasm", "machine-worker.js":
             text = self.element((self.folder / "nezdrab.html").read_text(), name)
             self.assertEqual(text, self.element(packed, name))
 

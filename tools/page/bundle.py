@@ -21,7 +21,7 @@ from nezdrab.export.page_file import json_text, packed_bytes
 
 WORKER = "machine-worker.js"
 LOADER = "loader.js"
-MAIN = "main.js"  # whose element web/loader.js takes
+PAGE_SCRIPT = "script"  # the element that web/loader.js takes
 SESSIONS = "sessions"
 IMPORT = re.compile(r'^import \{([^}]*)\} from "\./([a-z-]+\.js)";\n', re.M)
 EXPORT = re.compile(r"^export (?=(?:async )?(?:function|class|const) (\w+))", re.M)
@@ -32,7 +32,7 @@ INDENT = re.compile(r"^[ \t]+", re.M)
 BLANK = re.compile(r"\n{2,}")
 OTHER_FORMS = re.compile(r"^(?:import|export)\b.*|\bimport(?:\(|\.meta)", re.M)
 ENDS_SCRIPT = re.compile(r"</script|<!--", re.I)
-SCRIPT = re.compile(rf'<script type="module" src="{re.escape(MAIN)}"></script>')
+SCRIPT = re.compile(r'<script type="module" src="([a-z-]+\.js)"></script>')
 STYLE = re.compile(r'<link rel="stylesheet" href="([a-z-]+\.css)">')
 HEAD = '<meta charset="utf-8">\n'
 
@@ -163,12 +163,12 @@ def page(
     entry = SCRIPT.findall(text)
     if len(entry) != 1 or text.count(HEAD) != 1 or re.search(r"\sstyle=", text):
         raise PackingError(
-            f"{path}: a page has one line {HEAD.strip()}, one <script type=\"module\""
-            f" src=\"{MAIN}\">, and no attribute style, which its policy forbids"
+            f"{path}: a page has one line {HEAD.strip()}, one <script type=\"module\" src=..>, and"
+            " no attribute style, which its policy forbids"
         )
-    script, loader = script_of(folder, MAIN), script_of(folder, LOADER)
+    script, loader = script_of(folder, entry[0]), script_of(folder, LOADER)
     styles = {str(it): stripped(text_of(folder / it)) for it in STYLE.findall(text)}
-    inside = element("text/plain", MAIN, module_text(script.encode()))
+    inside = element("text/plain", PAGE_SCRIPT, module_text(script.encode()))
     inside += element("text/plain", WORKER, script_of(folder, WORKER))
     for name in sorted(programs):
         inside += element("text/plain", f"{name}.wasm", module_text(programs[name]))
